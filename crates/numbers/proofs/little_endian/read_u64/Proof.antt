@@ -1,0 +1,15 @@
+-- `numbers::little_endian::read_u64` meets its contract. Assumes nothing.
+use borrow.Author.Needs.{needs}
+use Rattle.numbers.proofs.little_endian.Fields.{field-in, field-out}
+use Rattle.numbers.proofs.little_endian.read_u64.Statement.{statement}
+use Rattle.numbers.proofs.little_endian.read_u64.Tie as tie
+
+pub read-u64-spec : {M : Type 1} → statement M
+read-u64-spec =
+    tie.close
+    (tie.spec
+    (λ c κs. search needs)
+    (λ c. search (field-out 8, needs))
+    (λ c κs. search needs)
+    (λ c. search needs)
+    (λ c. search (field-in 8, needs)))

@@ -1,0 +1,137 @@
+// LEB128 numbers, as DWARF has them, of at most ten bytes.
+ghost use mathlib.Core.Path.{_≡_};
+ghost use Prim.Native.Nat.{_<_, _^_};
+ghost use lib.IntN.{pos, negsuc};
+ghost use Rattle.numbers.specs.Gathered.{gatheredAt};
+ghost use Rattle.numbers.specs.Leb128.{ulebAt, slebAt};
+use crate::Number;
+
+// A signed number and the place behind it.
+pub enum Signed {
+    Value(i64, usize),
+    Fault,
+}
+
+// The unsigned number at a place.
+pub fn read_uleb(s: &[u8], at: usize) -> Number
+    ensures { λ r. ⌜ r ≡ ulebAt (now (s .entry)) at ⌝ }
+{
+    match gather(s, at) {
+        Gathered::Few {
+            low,
+            scale,
+            last,
+            next,
+        } => Number::Value(low + (last as u64) * scale, next),
+        Gathered::Ten { low, last, next } => {
+            if last < 2 {
+                Number::Value(low + (last as u64) * TENTH, next)
+            } else {
+                Number::Fault
+            }
+        }
+        Gathered::Cut => Number::Fault,
+    }
+}
+
+// The signed number at a place.
+pub fn read_sleb(s: &[u8], at: usize) -> Signed
+    ensures { λ r. ⌜ r ≡ slebAt (now (s .entry)) at ⌝ }
+{
+    match gather(s, at) {
+        Gathered::Few {
+            low,
+            scale,
+            last,
+            next,
+        } => {
+            if last < 64 {
+                Signed::Value(plus(low + (last as u64) * scale), next)
+            } else {
+                Signed::Value(
+                    minus(((127 - last) as u64) * scale + (scale - 1 - low)),
+                    next,
+                )
+            }
+        }
+        Gathered::Ten { low, last, next } => {
+            if last == 0 {
+                return Signed::Value(plus(low), next);
+            }
+            if last == 127 {
+                return Signed::Value(minus(TENTH - 1 - low), next);
+            }
+            Signed::Fault
+        }
+        Gathered::Cut => Signed::Fault,
+    }
+}
+
+// What the tenth chunk counts: 128^9.
+const TENTH: u64 = 0x8000_0000_0000_0000;
+
+// The chunks of a number, gathered: those before the last are worth `low`, and the last counts
+// `scale` times.
+enum Gathered {
+    Few {
+        low: u64,
+        scale: u64,
+        last: u8,
+        next: usize,
+    },
+    Ten {
+        low: u64,
+        last: u8,
+        next: usize,
+    },
+    Cut,
+}
+
+fn gather(s: &[u8], from: usize) -> Gathered
+    ensures { λ r. ⌜ r ≡ gatheredAt (now (s .entry)) from ⌝ }
+{
+    let mut at = from;
+    let mut low: u64 = 0;
+    let mut scale: u64 = 1;
+    while at < s.len() {
+        let byte = s[at];
+        if byte < 128 {
+            if scale == TENTH {
+                return Gathered::Ten {
+                    low,
+                    last: byte,
+                    next: at + 1,
+                };
+            }
+            return Gathered::Few {
+                low,
+                scale,
+                last: byte,
+                next: at + 1,
+            };
+        }
+        if scale == TENTH {
+            return Gathered::Cut;
+        }
+        low = low + ((byte % 128) as u64) * scale;
+        scale = scale * 128;
+        at = at + 1;
+    }
+    Gathered::Cut
+}
+
+// The number x.
+fn plus(x: u64) -> i64
+    requires { ⌜ x < 2 ^ 63 ⌝ }
+    ensures { λ r. ⌜ r ≡ pos x ⌝ }
+{
+    x as i64
+}
+
+// The number -1 - x.
+fn minus(x: u64) -> i64
+    requires { ⌜ x < 2 ^ 63 ⌝ }
+    ensures { λ r. ⌜ r ≡ negsuc x ⌝ }
+{
+    -1 - (x as i64)
+}
