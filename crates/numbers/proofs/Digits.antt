@@ -3,8 +3,9 @@ use Prim.Native.Nat.{ℕ, suc, _+_, _*_, _^_, _<_}
 use mathlib.Core.Path.{_≡_, ap, _∙_}
 use mathlib.Core.List.{List, [], _∷_, _++_}
 use native.Mathlib.Omega.{arith}
-use native.Mathlib.Nat.{pow-zero, pow-succ'}
-use lib.ListN.{length, getD}
+use native.Mathlib.Nat.{pow-zero, pow-suc, pow-succ'}
+use lib.Arith.{digits-lt}
+use lib.ListN.{length}
 use Rattle.numbers.specs.Digits.{fromDigits}
 
 module _ (base : ℕ) where
@@ -14,6 +15,9 @@ module _ (base : ℕ) where
   more-before : (d f n e : ℕ) {x : ℕ} → x ≡ f + base ^ n * e → d + base * x ≡ d + base * f + base ^ suc n * e
   more-before d f n e h =
       omega (arith, ap (λ (m : ℕ). base * m) h, ap (λ (m : ℕ). m * e) (pow-succ' base n))
+
+  pub digit-below : {d f : ℕ} (n : ℕ) → d < base → f < base ^ n → d + base * f < base ^ suc n
+  digit-below n h l = omega (arith, digits-lt l h, pow-suc base n)
 
   -- a number's digits before those of another
   pub digits-append : (ds es : List ℕ) → fromDigits base (ds ++ es) ≡ fromDigits base ds + base ^ length ds * fromDigits base es

@@ -19,7 +19,6 @@ pub data Chunks : Type 0 where
   cut : Chunks
 
 infixr 30 _onto_
-
 abbrev pub _onto_ : ℕ → Chunks → Chunks
 c onto chunks cs = chunks (c ∷ cs)
 c onto cut = cut

@@ -39,11 +39,7 @@ pub fn read_u64(s: &[u8], at: usize) -> Number
 fn left(len: usize, at: usize) -> usize
     ensures { λ r. ⌜ r ≡ len - at ⌝ }
 {
-    if at <= len {
-        len - at
-    } else {
-        0
-    }
+    if at <= len { len - at } else { 0 }
 }
 
 // Each field is its low half and its high half.

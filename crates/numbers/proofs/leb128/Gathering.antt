@@ -54,11 +54,11 @@ behind-more : (cs : List ℕ) (c : ℕ) (x : Chunks) → behind cs (c onto x) �
 behind-more cs c (chunks ds) = ap chunks (sym (append-snoc cs c ds))
 behind-more cs c cut = refl
 
-length-snoc : (cs : List ℕ) (c : ℕ) → length (cs ++ (c ∷ [])) ≡ length cs + 1
+pub length-snoc : (cs : List ℕ) (c : ℕ) → length (cs ++ (c ∷ [])) ≡ length cs + 1
 length-snoc cs c = length-append cs (c ∷ [])
 
 -- the last of some chunks, and those before it
-gathered-snoc : (from : ℕ) (cs : List ℕ) (c : ℕ) → gathered from (chunks (cs ++ (c ∷ []))) ≡ cond (ltb (length cs + 1) 10) (Few (fromDigits 128 cs) (128 ^ length cs) c (from + (length cs + 1))) (Ten (fromDigits 128 cs) c (from + (length cs + 1)))
+pub gathered-snoc : (from : ℕ) (cs : List ℕ) (c : ℕ) → gathered from (chunks (cs ++ (c ∷ []))) ≡ cond (ltb (length cs + 1) 10) (Few (fromDigits 128 cs) (128 ^ length cs) c (from + (length cs + 1))) (Ten (fromDigits 128 cs) c (from + (length cs + 1)))
 gathered-snoc from cs c =
     let e : length cs + 1 - 1 ≡ length cs = omega arith in
     rw (length-snoc cs c, e, take-append-seam cs (c ∷ []), getD-append-seam cs c [] 0)

@@ -4,7 +4,7 @@ use mathlib.Core.Path.{_≡_, refl, ap, sym, _∙_, subst}
 use mathlib.Core.Bool.{Bool, true, false}
 use mathlib.Core.List.{List, [], _∷_}
 use native.Mathlib.Omega.{arith}
-use native.Mathlib.Nat.{mul-le-mul, one-le-pow, pow-le-pow-right, pow-succ'}
+use native.Mathlib.Nat.{mul-le-mul, one-le-pow, pow-le-pow-right}
 use borrow.Author.Tests.{le-leb, lt-leb}
 use lib.Arith.{digits-lt}
 use lib.Dec.{leb}
@@ -16,7 +16,7 @@ use Rattle.numbers.specs.Digits.{fromDigits}
 use Rattle.numbers.specs.LittleEndian.{littleEndian, fieldAt}
 use Rattle.numbers.specs.declared.Number.{Number}
 use Rattle.numbers.specs.declared.Number.the-variants.{Value, Fault}
-use Rattle.numbers.proofs.Digits.{digits-append}
+use Rattle.numbers.proofs.Digits.{digits-append, digit-below}
 
 -- what a slice of bytes is known to hold
 abbrev pub Bytes : List ℕ → Type 0
@@ -24,15 +24,12 @@ Bytes s = (i : ℕ) → Fits w8 (getD s i 0)
 
 -- ---- bounds
 
-more-below : (b f n : ℕ) → b < 256 → f < 256 ^ n → b + 256 * f < 256 ^ suc n
-more-below b f n h l = rw (pow-succ' 256 n) (omega arith)
-
 pub field-below : (s : List ℕ) (n at : ℕ) → Bytes s → littleEndian n s at < 256 ^ n
 unfolding fromDigits littleEndian
 field-below [] n at h = rw (drop-nil at, take-nil n) (one-le-pow n 256 (omega arith))
 field-below (b ∷ s) zero at h = omega arith
 field-below (b ∷ s) (suc n) zero h =
-    more-below b (littleEndian n s 0) n (h 0 .fits) (field-below s n 0 (λ i. h (suc i)))
+    digit-below 256 n (h 0 .fits) (field-below s n 0 (λ i. h (suc i)))
 field-below (b ∷ s) (suc n) (suc at) h = field-below s (suc n) at (λ i. h (suc i))
 
 -- ---- a field by its halves

@@ -1,0 +1,123 @@
+-- The signed number, from its chunks. Assumes nothing.
+use Prim.Native.Nat.{ℕ, suc, _+_, _-_, _*_, _^_, _≤_, _<_}
+use mathlib.Core.Path.{_≡_, refl, ap, sym, _∙_}
+use mathlib.Core.Bool.{true, _||_}
+use mathlib.Core.List.{List, [], _∷_, _++_}
+use native.Mathlib.Omega.{arith}
+use borrow.Author.Tests.{lt-ltb, le-ltb, ne-eqb}
+use lib.Arith.{digits-lt}
+use lib.Dec.{eqb}
+use lib.IntN.{ℤ, pos, negsuc, negℤ, subℕ, _+ℤ_, _-ℤ_}
+use mir.Syntax.{w64}
+use mir.Val.{Fits}
+use mir.Facts.{toZ-ofZ}
+use Rattle.numbers.specs.Leb128.{Chunks, signedOf, signExtended, chunksAt, slebAt}
+use Rattle.numbers.specs.Gathered.{gatheredAt}
+use Rattle.numbers.specs.declared.leb128.Gathered.{Gathered}
+use Rattle.numbers.specs.declared.leb128.Gathered.the-variants.{Few, Ten, Cut}
+use Rattle.numbers.specs.declared.leb128.Signed.{Signed}
+use Rattle.numbers.specs.declared.leb128.Signed.the-variants.{Value, Fault}
+use Rattle.numbers.proofs.leb128.Views.{Seen, SeenFew, SeenTen, value-is, next-is, weight-is, last-is, value-below, no-tenth, tenth-is, scale-small, seen, few-sum, few-product}
+
+-- ---- a number less a larger one
+
+sub-below : (a b : ℕ) → a < b → subℕ a b ≡ negsuc (b - suc a)
+sub-below a b h = simp (lt-ltb a b h)
+
+take-away : (a m n : ℕ) → m ≡ suc n → a ≤ n → pos a -ℤ pos m ≡ negsuc (n - a)
+take-away a m n e h =
+    ap (λ (k : ℕ). pos a -ℤ pos k) e ∙ sub-below a (suc n) (omega arith) ∙ ap negsuc (omega arith)
+
+-- ---- the number by its sign
+
+module _ {x : Chunks} {at low scale last next : ℕ} (v : Seen x at low scale last next) where
+  extended-plus : last < 64 → signExtended (v .passed ++ (last ∷ [])) ≡ pos (low + last * scale)
+  extended-plus h = rw (last-is v, lt-ltb last 64 h) (ap pos (value-is v))
+
+  complement : scale * 128 - 1 - (low + last * scale) ≡ (127 - last) * scale + (scale - 1 - low)
+  complement =
+      let e : last + (127 - last) ≡ 127 = omega (arith, v .small) in
+      omega (arith, v .below, v .small, value-below v (v .small), ap (λ (n : ℕ). n * scale) e)
+
+  extended-minus : 64 ≤ last → signExtended (v .passed ++ (last ∷ [])) ≡ negsuc ((127 - last) * scale + (scale - 1 - low))
+  extended-minus h =
+      rw (last-is v, le-ltb last 64 h, value-is v, weight-is v)
+      (take-away (low + last * scale) (scale * 128) (scale * 128 - 1) (omega (arith, v .below)) (omega (arith, value-below v (v .small))) ∙ ap negsuc complement)
+
+  minus-below : 64 ≤ last → (127 - last) * scale + (scale - 1 - low) < 64 * scale
+  minus-below h =
+      let q : 127 - last < 64 = omega arith in
+      let r : scale - 1 - low < scale = omega (arith, v .below) in
+      omega (arith, digits-lt q r)
+
+-- ---- what the code answers
+
+module _ (s : List ℕ) (at : ℕ) {r : Gathered} (g : r ≡ gatheredAt s at) where
+  pub cut-sleb : r ≡ Cut → Fault ≡ slebAt s at
+  unfolding slebAt
+  cut-sleb f = sym (ap (signedOf at) (seen s at g f))
+
+  module _ {low scale last next : ℕ} (f : r ≡ Few low scale last next) where
+    few : SeenFew (chunksAt s at) at low scale last next
+    few = seen s at g f
+
+    few-value : {z : ℤ} → z ≡ signExtended (few .seen .passed ++ (last ∷ [])) → Value z next ≡ slebAt s at
+    unfolding slebAt
+    few-value e =
+        ap (λ (y : ℤ). Value y next) e ∙ sym (ap (signedOf at) (few .seen .is) ∙ rw (no-tenth few, next-is (few .seen)))
+
+    pub few-plus : {z : ℤ} → last < 64 → z ≡ pos (low + last * scale) → Value z next ≡ slebAt s at
+    few-plus h e = few-value (e ∙ sym (extended-plus (few .seen) h))
+
+    pub few-minus : {z : ℤ} → 64 ≤ last → z ≡ negsuc ((127 - last) * scale + (scale - 1 - low)) → Value z next ≡ slebAt s at
+    few-minus h e = few-value (e ∙ sym (extended-minus (few .seen) h))
+
+    pub few-last : last ≤ 127
+    few-last = omega (arith, few .seen .small)
+
+    pub few-scale : 1 ≤ scale
+    few-scale = omega (arith, few .seen .below)
+
+    pub few-low : low ≤ scale - 1
+    few-low = omega (arith, few .seen .below)
+
+    pub plus-below : last < 64 → low + last * scale < 2 ^ 63
+    plus-below h = omega (arith, scale-small few, value-below (few .seen) h)
+
+    pub minus-small : 64 ≤ last → (127 - last) * scale + (scale - 1 - low) < 2 ^ 63
+    minus-small h = omega (arith, scale-small few, minus-below (few .seen) h)
+
+    pub minus-sum : 64 ≤ last → Fits w64 ((127 - last) * scale + (scale - 1 - low))
+    minus-sum h = record { fits = omega (arith, minus-small h) }
+
+    pub minus-product : 64 ≤ last → Fits w64 ((127 - last) * scale)
+    minus-product h = record { fits = omega (arith, minus-small h) }
+
+  module _ {low last next : ℕ} (f : r ≡ Ten low last next) where
+    ten : SeenTen (chunksAt s at) at low last next
+    ten = seen s at g f
+
+    pub ten-low : low < 2 ^ 63
+    ten-low = ten .seen .below
+
+    pub ten-most : low ≤ 2 ^ 63 - 1
+    ten-most = omega (arith, ten-low)
+
+    ten-value : (k : ℕ) {z : ℤ} → last ≡ k → (eqb k 0x00 || eqb k 0x7f) ≡ true → z ≡ signExtended (ten .seen .passed ++ (last ∷ [])) → Value z next ≡ slebAt s at
+    unfolding slebAt
+    ten-value k h t e =
+        ap (λ (y : ℤ). Value y next) e ∙ sym (ap (signedOf at) (ten .seen .is) ∙ rw (tenth-is ten ∙ h, t, next-is (ten .seen)))
+
+    pub ten-plus : {z : ℤ} → last ≡ 0 → z ≡ pos low → Value z next ≡ slebAt s at
+    ten-plus h e =
+        ten-value 0 h refl (e ∙ ap pos (omega arith) ∙ sym (extended-plus (ten .seen) (omega arith)))
+
+    pub ten-minus : {z : ℤ} → last ≡ 127 → z ≡ negsuc (2 ^ 63 - 1 - low) → Value z next ≡ slebAt s at
+    ten-minus h e =
+        ten-value 127 h refl (e ∙ ap negsuc (omega arith) ∙ sym (extended-minus (ten .seen) (omega arith)))
+
+    pub ten-fault : (last ≡ 0 → ⊥) → (last ≡ 127 → ⊥) → Fault ≡ slebAt s at
+    unfolding slebAt
+    ten-fault h l = sym (ap (signedOf at) (ten .seen .is) ∙ rw (tenth-is ten, ne-eqb last 0 h, ne-eqb last 127 l))
+
+pub ruleset sleb-laws = (toZ-ofZ, cut-sleb, few-sum, few-product, few-plus, few-minus, few-last, few-scale, few-low, plus-below, minus-small, minus-sum, minus-product, ten-low, ten-most, ten-plus, ten-minus, ten-fault)

@@ -1,0 +1,47 @@
+-- The unsigned number, from its chunks. Assumes nothing.
+use Prim.Native.Nat.{ℕ, _+_, _*_, _^_, _≤_, _<_}
+use mathlib.Core.Path.{_≡_, refl, ap, sym, _∙_}
+use mathlib.Core.List.{List, [], _∷_, _++_}
+use native.Mathlib.Omega.{arith}
+use borrow.Author.Tests.{lt-ltb, le-ltb}
+use mir.Syntax.{w64}
+use mir.Val.{Fits}
+use Rattle.numbers.specs.Leb128.{Chunks, unsignedOf, chunksAt, ulebAt}
+use Rattle.numbers.specs.Gathered.{gatheredAt}
+use Rattle.numbers.specs.declared.leb128.Gathered.{Gathered}
+use Rattle.numbers.specs.declared.leb128.Gathered.the-variants.{Few, Ten, Cut}
+use Rattle.numbers.specs.declared.Number.{Number}
+use Rattle.numbers.specs.declared.Number.the-variants.{Value, Fault}
+use Rattle.numbers.proofs.leb128.Views.{Seen, SeenFew, SeenTen, value-is, next-is, value-below, no-tenth, tenth-is, seen, few-sum, few-product}
+
+module _ (s : List ℕ) (at : ℕ) {r : Gathered} (g : r ≡ gatheredAt s at) where
+  pub cut-uleb : r ≡ Cut → Fault ≡ ulebAt s at
+  unfolding ulebAt
+  cut-uleb f = sym (ap (unsignedOf at) (seen s at g f))
+
+  module _ {low scale last next : ℕ} (f : r ≡ Few low scale last next) where
+    few : SeenFew (chunksAt s at) at low scale last next
+    few = seen s at g f
+
+    pub few-uleb : Value (low + last * scale) next ≡ ulebAt s at
+    unfolding ulebAt
+    few-uleb =
+        sym (ap (unsignedOf at) (few .seen .is) ∙ rw (no-tenth few, value-is (few .seen), next-is (few .seen)))
+
+  module _ {low last next : ℕ} (f : r ≡ Ten low last next) where
+    ten : SeenTen (chunksAt s at) at low last next
+    ten = seen s at g f
+
+    pub ten-uleb : last < 2 → Value (low + last * 2 ^ 63) next ≡ ulebAt s at
+    unfolding ulebAt
+    ten-uleb h =
+        sym (ap (unsignedOf at) (ten .seen .is) ∙ rw (tenth-is ten, lt-ltb last 2 h, value-is (ten .seen), next-is (ten .seen)))
+
+    pub ten-large : 2 ≤ last → Fault ≡ ulebAt s at
+    unfolding ulebAt
+    ten-large h = sym (ap (unsignedOf at) (ten .seen .is) ∙ rw (tenth-is ten, le-ltb last 2 h))
+
+    pub ten-fits : last < 2 → Fits w64 (low + last * 2 ^ 63)
+    ten-fits h = record { fits = value-below (ten .seen) h }
+
+pub ruleset uleb-laws = (cut-uleb, few-uleb, few-sum, few-product, ten-uleb, ten-large, ten-fits)
