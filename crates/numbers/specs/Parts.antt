@@ -1,14 +1,18 @@
--- A part of a slice: so many of its bytes from a place, where they lie; none where they do not all lie in it.
+-- A part of a slice: so many of its bytes from a place; none where place and length do not lie in it.
 use Prim.Native.Nat.{ℕ, _+_}
 use mathlib.Core.Bool.{cond}
 use mathlib.Core.List.{List, []}
 use lib.Dec.{leb}
 use lib.ListN.{length, take, drop}
 
--- the bytes
+-- its bytes
 unfoldable pub partOf : List ℕ → ℕ → ℕ → List ℕ
 partOf s at len = cond (leb (at + len) (length s)) (take len (drop at s)) []
 
--- where they lie, in a slice that lies at an offset of a block of memory, and the bytes
-unfoldable pub partAt : ℕ × ℕ → List ℕ → ℕ → ℕ → (ℕ × ℕ) × List ℕ
-partAt p s at len = cond (leb (at + len) (length s)) ((p .0, p .1 + at), take len (drop at s)) (p, [])
+-- where it lies, for a slice that lies at an offset in a block of memory
+unfoldable pub placeOf : ℕ × ℕ → List ℕ → ℕ → ℕ → ℕ × ℕ
+placeOf p s at len = cond (leb (at + len) (length s)) (p .0, p .1 + at) p
+
+-- both: the part, and not a copy
+abbrev pub partAt : ℕ × ℕ → List ℕ → ℕ → ℕ → (ℕ × ℕ) × List ℕ
+partAt p s at len = (placeOf p s at len, partOf s at len)

@@ -1,4 +1,5 @@
-// The refusals that every walk and check of this library answers with.
+// The refusals: why a start, a walk or a preflight gives no more. `specs/Numbers.antt` says when each
+// is given.
 ghost use mathlib.Core.Path.{_≡_};
 ghost use Rattle.refusal.specs.Numbers.{numberOf};
 
@@ -18,7 +19,7 @@ pub enum Refusal {
     PointerOutside,
     FaultyImport,
     FaultyNode,
-    NodeWithinItself,
+    ChildIsOpen,
     TooManyOpenNodes,
     NameTooLong,
     StateOutOfRange,
@@ -27,6 +28,7 @@ pub enum Refusal {
 }
 
 impl Refusal {
+    // The number by which hosts know the refusal.
     pub fn number(self) -> u8
         ensures { λ r. ⌜ r ≡ numberOf self ⌝ }
     {
@@ -46,7 +48,7 @@ impl Refusal {
             Refusal::PointerOutside => 13,
             Refusal::FaultyImport => 14,
             Refusal::FaultyNode => 15,
-            Refusal::NodeWithinItself => 16,
+            Refusal::ChildIsOpen => 16,
             Refusal::TooManyOpenNodes => 17,
             Refusal::NameTooLong => 18,
             Refusal::StateOutOfRange => 19,

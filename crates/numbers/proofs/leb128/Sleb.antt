@@ -30,7 +30,7 @@ take-away a m n e h =
 
 -- ---- the number by its sign
 
-module _ {x : Chunks} {at low scale last next : ℕ} (v : Seen x at low scale last next) where
+module _ {s : List ℕ} {at low scale last next : ℕ} (v : Seen s at low scale last next) where
   extended-plus : last < 64 → signExtended (v .passed ++ (last ∷ [])) ≡ pos (low + last * scale)
   extended-plus h = rw (last-is v, lt-ltb last 64 h) (ap pos (value-is v))
 
@@ -58,7 +58,7 @@ module _ (s : List ℕ) (at : ℕ) {r : Gathered} (g : r ≡ gatheredAt s at) wh
   cut-sleb f = sym (ap (signedOf at) (seen s at g f))
 
   module _ {low scale last next : ℕ} (f : r ≡ Few low scale last next) where
-    few : SeenFew (chunksAt s at) at low scale last next
+    few : SeenFew s at low scale last next
     few = seen s at g f
 
     few-value : {z : ℤ} → z ≡ signExtended (few .seen .passed ++ (last ∷ [])) → Value z next ≡ slebAt s at
@@ -94,7 +94,7 @@ module _ (s : List ℕ) (at : ℕ) {r : Gathered} (g : r ≡ gatheredAt s at) wh
     minus-product h = record { fits = omega (arith, minus-small h) }
 
   module _ {low last next : ℕ} (f : r ≡ Ten low last next) where
-    ten : SeenTen (chunksAt s at) at low last next
+    ten : SeenTen s at low last next
     ten = seen s at g f
 
     pub ten-low : low < 2 ^ 63

@@ -20,7 +20,7 @@ module _ (s : List ℕ) (at : ℕ) {r : Gathered} (g : r ≡ gatheredAt s at) wh
   cut-uleb f = sym (ap (unsignedOf at) (seen s at g f))
 
   module _ {low scale last next : ℕ} (f : r ≡ Few low scale last next) where
-    few : SeenFew (chunksAt s at) at low scale last next
+    few : SeenFew s at low scale last next
     few = seen s at g f
 
     pub few-uleb : Value (low + last * scale) next ≡ ulebAt s at
@@ -29,7 +29,7 @@ module _ (s : List ℕ) (at : ℕ) {r : Gathered} (g : r ≡ gatheredAt s at) wh
         sym (ap (unsignedOf at) (few .seen .is) ∙ rw (no-tenth few, value-is (few .seen), next-is (few .seen)))
 
   module _ {low last next : ℕ} (f : r ≡ Ten low last next) where
-    ten : SeenTen (chunksAt s at) at low last next
+    ten : SeenTen s at low last next
     ten = seen s at g f
 
     pub ten-uleb : last < 2 → Value (low + last * 2 ^ 63) next ≡ ulebAt s at

@@ -1,0 +1,172 @@
+-- The laws that callers cite: what is known of whatever was read. They are about the definitions alone. Assumes nothing.
+use Prim.Native.Nat.{ℕ, suc, _+_, _-_, _*_, _^_, _≤_, _<_}
+use mathlib.Core.Path.{_≡_, refl, ap, sym, _∙_, subst}
+use mathlib.Core.Bool.{Bool, true, false, cond}
+use mathlib.Core.List.{List, [], _∷_}
+use native.Mathlib.Decide.{decLt, ℕ-discrete}
+use native.Mathlib.Omega.{arith}
+use borrow.Author.Tests.{leb-true, le-leb}
+use lib.Dec.{leb, eqb}
+use lib.IntN.{ℤ, pos, negsuc}
+use lib.ListN.{length, take, drop, length-drop, length-take}
+use lib.Seq.{length-take-le}
+use mir.Syntax.{w64}
+use mir.Val.{Fits, SFits}
+use Rattle.numbers.specs.Gathered.{gatheredAt}
+use Rattle.numbers.specs.Leb128.{ulebAt, slebAt}
+use Rattle.numbers.specs.LittleEndian.{littleEndian, fieldAt}
+use Rattle.numbers.specs.Parts.{partOf}
+use Rattle.numbers.specs.Strings.{Nul, after, none, further, firstNul, text, stringAt}
+use Rattle.numbers.specs.declared.Number.{Number}
+use Rattle.numbers.specs.declared.Number.the-variants as number
+use Rattle.numbers.specs.declared.leb128.Gathered.{Gathered}
+use Rattle.numbers.specs.declared.leb128.Gathered.the-variants.{Few, Ten, Cut}
+use Rattle.numbers.specs.declared.leb128.Signed.{Signed}
+use Rattle.numbers.specs.declared.leb128.Signed.the-variants as signed
+use Rattle.numbers.specs.declared.strings.Text.{Text}
+use Rattle.numbers.specs.declared.strings.Text.the-variants as string
+use Rattle.numbers.proofs.leb128.Views.{Seen, seen, few-sum}
+use Rattle.numbers.proofs.leb128.Uleb.{few-uleb, ten-uleb, ten-fits, ten-large, cut-uleb}
+use Rattle.numbers.proofs.leb128.Sleb.{few-plus, few-minus, plus-below, minus-small, ten-low, ten-plus, ten-minus, ten-fault, cut-sleb}
+use Rattle.numbers.proofs.little_endian.Fields.{Bytes, field-below}
+
+-- what is read at a place ends behind it, and within the bytes
+pub record Within (s : List ℕ) (at next : ℕ) : Type 0 where
+  pub beyond : at < next
+  pub inside : next ≤ length s
+
+seen-within : {s : List ℕ} {at low scale last next : ℕ} → Seen s at low scale last next → Within s at next
+seen-within v = record { beyond = omega (arith, v .place); inside = v .inside }
+
+-- ---- unsigned LEB128: a value is below 2^64
+
+pub record UlebRead (s : List ℕ) (at value next : ℕ) : Type 0 where
+  pub within : Within s at next
+  pub below : value < 2 ^ 64
+
+abbrev IfUleb : List ℕ → ℕ → Number → Type 0
+IfUleb s at (number.Value v next) = UlebRead s at v next
+IfUleb s at number.Fault = Unit {0}
+
+module _ (s : List ℕ) (at : ℕ) where
+  uleb-of : (y : Gathered) → gatheredAt s at ≡ y → IfUleb s at (ulebAt s at)
+  uleb-of (Few low scale last next) f =
+      subst (IfUleb s at) (few-uleb s at refl f)
+      (record { within = seen-within (seen s at refl f .seen); below = few-sum s at refl f .fits })
+  uleb-of (Ten low last next) f =
+      elim (decLt last 2) [
+        | yes h ↦ subst (IfUleb s at) (ten-uleb s at refl f h)
+            (record { within = seen-within (seen s at refl f .seen); below = ten-fits s at refl f h .fits })
+        | no h ↦ subst (IfUleb s at) (ten-large s at refl f (omega arith)) tt
+      ]
+  uleb-of Cut f = subst (IfUleb s at) (cut-uleb s at refl f) tt
+
+  pub uleb-read : {r : Number} {v next : ℕ} → r ≡ ulebAt s at → r ≡ number.Value v next → UlebRead s at v next
+  uleb-read e f = subst (IfUleb s at) (sym e ∙ f) (uleb-of (gatheredAt s at) refl)
+
+-- ---- signed LEB128: a value is one of an i64
+
+pub record SlebRead (s : List ℕ) (at : ℕ) (value : ℤ) (next : ℕ) : Type 0 where
+  pub within : Within s at next
+  pub fits : SFits w64 value
+
+abbrev IfSleb : List ℕ → ℕ → Signed → Type 0
+IfSleb s at (signed.Value v next) = SlebRead s at v next
+IfSleb s at signed.Fault = Unit {0}
+
+module _ (s : List ℕ) (at : ℕ) where
+  sleb-of : (y : Gathered) → gatheredAt s at ≡ y → IfSleb s at (slebAt s at)
+  sleb-of (Few low scale last next) f =
+      elim (decLt last 64) [
+        | yes h ↦ subst (IfSleb s at) (few-plus s at refl f h refl)
+            (record { within = seen-within (seen s at refl f .seen); fits = record { sfits = plus-below s at refl f h } })
+        | no h ↦ let l : 64 ≤ last = omega arith in
+            subst (IfSleb s at) (few-minus s at refl f l refl)
+            (record { within = seen-within (seen s at refl f .seen); fits = record { sfits = minus-small s at refl f l } })
+      ]
+  sleb-of (Ten low last next) f =
+      elim (ℕ-discrete last 0) [
+        | yes h ↦ subst (IfSleb s at) (ten-plus s at refl f h refl)
+            (record { within = seen-within (seen s at refl f .seen); fits = record { sfits = ten-low s at refl f } })
+        | no h ↦ elim (ℕ-discrete last 127) [
+          | yes l ↦ subst (IfSleb s at) (ten-minus s at refl f l refl)
+              (record { within = seen-within (seen s at refl f .seen); fits = record { sfits = omega arith } })
+          | no l ↦ subst (IfSleb s at) (ten-fault s at refl f h l) tt
+        ]
+      ]
+  sleb-of Cut f = subst (IfSleb s at) (cut-sleb s at refl f) tt
+
+  pub sleb-read : {r : Signed} {v : ℤ} {next : ℕ} → r ≡ slebAt s at → r ≡ signed.Value v next → SlebRead s at v next
+  sleb-read e f = subst (IfSleb s at) (sym e ∙ f) (sleb-of (gatheredAt s at) refl)
+
+-- ---- strings
+
+pub record StringRead (s : List ℕ) (at start len next : ℕ) : Type 0 where
+  pub within : Within s at next
+  pub starts : start ≡ at
+  pub ends : next ≡ start + len + 1
+
+abbrev IfNul : List ℕ → Nul → Type 0
+IfNul bs (after n) = n < length bs
+IfNul bs none = Unit {0}
+
+nul-further : (b : ℕ) (bs : List ℕ) (t : Bool) (x : Nul) → IfNul bs x → IfNul (b ∷ bs) (cond t (after 0) (further x))
+nul-further b bs true x h = omega arith
+nul-further b bs false (after n) h = omega arith
+nul-further b bs false none h = tt
+
+nul-inside : (bs : List ℕ) → IfNul bs (firstNul bs)
+unfolding firstNul
+nul-inside [] = tt
+nul-inside (b ∷ bs) = nul-further b bs (eqb b 0) (firstNul bs) (nul-inside bs)
+
+abbrev IfString : List ℕ → ℕ → Text → Type 0
+IfString s at (string.Found start len next) = StringRead s at start len next
+IfString s at string.Fault = Unit {0}
+
+module _ (s : List ℕ) (at : ℕ) where
+  string-of : (x : Nul) → IfNul (drop at s) x → IfString s at (text at x)
+  string-of (after n) h =
+      record {
+        within = record { beyond = omega arith; inside = omega (arith, length-drop at s) };
+        starts = refl;
+        ends = refl;
+      }
+  string-of none h = tt
+
+  pub string-read : {r : Text} {start len next : ℕ} → r ≡ stringAt s at → r ≡ string.Found start len next → StringRead s at start len next
+  unfolding stringAt
+  string-read e f = subst (IfString s at) (sym e ∙ f) (string-of (firstNul (drop at s)) (nul-inside (drop at s)))
+
+-- ---- fields of n bytes: a value is below 256^n
+
+pub record FieldRead (n : ℕ) (s : List ℕ) (at value next : ℕ) : Type 0 where
+  pub within : Within s at next
+  pub ends : next ≡ at + n
+  pub below : Bytes s → value < 256 ^ n
+
+abbrev IfField : ℕ → List ℕ → ℕ → Number → Type 0
+IfField n s at (number.Value v next) = FieldRead n s at v next
+IfField n s at number.Fault = Unit {0}
+
+module _ (n : ℕ) (some : 1 ≤ n) (s : List ℕ) (at : ℕ) where
+  field-of : (t : Bool) → leb (at + n) (length s) ≡ t → IfField n s at (cond t (number.Value (littleEndian n s at) (at + n)) number.Fault)
+  field-of true e =
+      record {
+        within = record { beyond = omega arith; inside = leb-true (at + n) (length s) e };
+        ends = refl;
+        below = field-below s n at;
+      }
+  field-of false e = tt
+
+  pub field-read : {r : Number} {v next : ℕ} → r ≡ fieldAt n s at → r ≡ number.Value v next → FieldRead n s at v next
+  unfolding fieldAt
+  field-read e f = subst (IfField n s at) (sym e ∙ f) (field-of (leb (at + n) (length s)) refl)
+
+-- ---- parts
+
+module _ (s : List ℕ) (at len : ℕ) where
+  pub part-length : at + len ≤ length s → length (partOf s at len) ≡ len
+  unfolding partOf
+  part-length h =
+      rw (le-leb (at + len) (length s) h) (length-take-le len (drop at s) (omega (arith, length-drop at s)))
