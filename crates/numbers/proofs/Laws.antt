@@ -6,7 +6,7 @@ use mathlib.Core.List.{List, [], _∷_}
 use native.Mathlib.Decide.{decLt, ℕ-discrete}
 use native.Mathlib.Omega.{arith}
 use borrow.Author.Tests.{leb-true, le-leb}
-use lib.Dec.{leb, eqb}
+use lib.Dec.{leb}
 use lib.IntN.{ℤ, pos, negsuc}
 use lib.ListN.{length, take, drop, length-drop, length-take}
 use lib.Seq.{length-take-le}
@@ -16,7 +16,8 @@ use Rattle.numbers.specs.Gathered.{gatheredAt}
 use Rattle.numbers.specs.Leb128.{ulebAt, slebAt}
 use Rattle.numbers.specs.LittleEndian.{littleEndian, fieldAt}
 use Rattle.numbers.specs.Parts.{partOf}
-use Rattle.numbers.specs.Strings.{Nul, after, none, further, firstNul, text, stringAt}
+use Rattle.numbers.specs.Runs.{Run, run, endless, runTo}
+use Rattle.numbers.specs.Strings.{isNul, stringOf, stringAt}
 use Rattle.numbers.specs.declared.Number.{Number}
 use Rattle.numbers.specs.declared.Number.the-variants as number
 use Rattle.numbers.specs.declared.leb128.Gathered.{Gathered}
@@ -25,6 +26,7 @@ use Rattle.numbers.specs.declared.leb128.Signed.{Signed}
 use Rattle.numbers.specs.declared.leb128.Signed.the-variants as signed
 use Rattle.numbers.specs.declared.strings.Text.{Text}
 use Rattle.numbers.specs.declared.strings.Text.the-variants as string
+use Rattle.numbers.proofs.Runs.{is-run, length-snoc}
 use Rattle.numbers.proofs.leb128.Views.{Seen, seen, few-sum}
 use Rattle.numbers.proofs.leb128.Uleb.{few-uleb, ten-uleb, ten-fits, ten-large, cut-uleb}
 use Rattle.numbers.proofs.leb128.Sleb.{few-plus, few-minus, plus-below, minus-small, ten-low, ten-plus, ten-minus, ten-fault, cut-sleb}
@@ -106,37 +108,25 @@ pub record StringRead (s : List ℕ) (at start len next : ℕ) : Type 0 where
   pub starts : start ≡ at
   pub ends : next ≡ start + len + 1
 
-abbrev IfNul : List ℕ → Nul → Type 0
-IfNul bs (after n) = n < length bs
-IfNul bs none = Unit {0}
-
-nul-further : (b : ℕ) (bs : List ℕ) (t : Bool) (x : Nul) → IfNul bs x → IfNul (b ∷ bs) (cond t (after 0) (further x))
-nul-further b bs true x h = omega arith
-nul-further b bs false (after n) h = omega arith
-nul-further b bs false none h = tt
-
-nul-inside : (bs : List ℕ) → IfNul bs (firstNul bs)
-unfolding firstNul
-nul-inside [] = tt
-nul-inside (b ∷ bs) = nul-further b bs (eqb b 0) (firstNul bs) (nul-inside bs)
-
 abbrev IfString : List ℕ → ℕ → Text → Type 0
 IfString s at (string.Found start len next) = StringRead s at start len next
 IfString s at string.Fault = Unit {0}
 
 module _ (s : List ℕ) (at : ℕ) where
-  string-of : (x : Nul) → IfNul (drop at s) x → IfString s at (text at x)
-  string-of (after n) h =
+  string-of : (x : Run) → runTo isNul (drop at s) ≡ x → IfString s at (stringOf at x)
+  string-of (run bs) e =
+      let i = is-run isNul (drop at s) e in
+      let n : length bs ≡ length (i .passed) + 1 = ap length (i .split) ∙ length-snoc (i .passed) (i .last) in
       record {
-        within = record { beyond = omega arith; inside = omega (arith, length-drop at s) };
+        within = record { beyond = omega (arith, n); inside = omega (arith, n, i .inside, length-drop at s) };
         starts = refl;
-        ends = refl;
+        ends = omega (arith, n);
       }
-  string-of none h = tt
+  string-of endless e = tt
 
   pub string-read : {r : Text} {start len next : ℕ} → r ≡ stringAt s at → r ≡ string.Found start len next → StringRead s at start len next
   unfolding stringAt
-  string-read e f = subst (IfString s at) (sym e ∙ f) (string-of (firstNul (drop at s)) (nul-inside (drop at s)))
+  string-read e f = subst (IfString s at) (sym e ∙ f) (string-of (runTo isNul (drop at s)) refl)
 
 -- ---- fields of n bytes: a value is below 256^n
 

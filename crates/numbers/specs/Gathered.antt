@@ -1,23 +1,23 @@
--- What the readers of LEB128 hold of a number, for either sign: the chunks before the last as a number, what the last counts, and the last.
+-- What the readers of LEB128 hold of a number, for either sign: what the bytes before the last are worth, what the last counts, and
+-- the last.
 use Prim.Native.Nat.{ℕ, _+_, _-_, _^_}
 use mathlib.Core.Bool.{cond}
 use mathlib.Core.List.{List}
 use lib.Dec.{ltb}
-use lib.ListN.{length, take}
-use Rattle.numbers.specs.Digits.{fromDigits}
-use Rattle.numbers.specs.Leb128.{Chunks, chunks, cut, chunksAt, last}
+use lib.ListN.{length, getD, take}
+use Rattle.numbers.specs.Leb128.{bytesAt, tenth, unsigned}
+use Rattle.numbers.specs.Runs.{Run, run, endless}
 use Rattle.numbers.specs.declared.leb128.Gathered.{Gathered}
 use Rattle.numbers.specs.declared.leb128.Gathered.the-variants.{Few, Ten, Cut}
 
-abbrev pub before : List ℕ → List ℕ
-before cs = take (length cs - 1) cs
-
-abbrev pub gathered : ℕ → Chunks → Gathered
-gathered at (chunks cs) =
-    cond (ltb (length cs) 10)
-    (Few (fromDigits 128 (before cs)) (128 ^ length (before cs)) (last cs) (at + length cs))
-    (Ten (fromDigits 128 (before cs)) (last cs) (at + length cs))
-gathered at cut = Cut
+abbrev pub gathered : ℕ → Run → Gathered
+gathered at (run bs) =
+    cond (ltb (length bs) 10)
+    (Few (unsigned (take (length bs - 1) bs)) (128 ^ (length bs - 1)) (getD bs (length bs - 1) 0) (at + length bs))
+    (cond (ltb (tenth bs) 128)
+    (Ten (unsigned (take 9 bs)) (tenth bs) (at + 10))
+    Cut)
+gathered at endless = Cut
 
 unfoldable pub gatheredAt : List ℕ → ℕ → Gathered
-gatheredAt s at = gathered at (chunksAt s at)
+gatheredAt s at = gathered at (bytesAt s at)

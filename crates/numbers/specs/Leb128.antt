@@ -1,63 +1,59 @@
--- LEB128, as DWARF 5 has it (7.6), in at most ten bytes. An integer is chopped into chunks of seven bits, the low order end first, a
--- chunk to a byte; the high order bit is set on each byte except the last.
-use Prim.Native.Nat.{ℕ, zero, suc, _+_, _-_, _%_, _^_}
+-- LEB128, as DWARF 5 has it (7.6): an integer is chopped into chunks of seven bits, the low order end first, a chunk to a byte; the
+-- high order bit is set on each byte except the last. Of at most ten bytes: 64 bits are nine chunks and a bit.
+use Prim.Native.Nat.{ℕ, _+_, _-_, _%_, _^_}
 use mathlib.Core.Bool.{Bool, cond, _||_}
-use mathlib.Core.List.{List, [], _∷_}
-use lib.Dec.{ltb, eqb}
+use mathlib.Core.List.{List, map}
+use lib.Dec.{leb, ltb, eqb}
 use lib.IntN.{ℤ, pos, _-ℤ_}
 use lib.ListN.{length, getD, drop}
 use Rattle.numbers.specs.Digits.{fromDigits}
+use Rattle.numbers.specs.Runs.{Run, run, endless, runTo}
 use Rattle.numbers.specs.declared.Number.{Number}
 use Rattle.numbers.specs.declared.Number.the-variants as number
 use Rattle.numbers.specs.declared.leb128.Signed.{Signed}
 use Rattle.numbers.specs.declared.leb128.Signed.the-variants as signed
 
--- ---- chunks
+-- ---- the bytes of a number
 
-pub data Chunks : Type 0 where
-  chunks : List ℕ → Chunks
-  cut : Chunks
+abbrev pub isLast : ℕ → Bool
+isLast b = ltb b 128
 
-infixr 30 _onto_
-abbrev pub _onto_ : ℕ → Chunks → Chunks
-c onto chunks cs = chunks (c ∷ cs)
-c onto cut = cut
+abbrev pub bytesAt : List ℕ → ℕ → Run
+bytesAt s at = runTo isLast (drop at s)
 
--- the chunks that these bytes begin with, in at most n bytes
-unfoldable pub chunksOf : ℕ → List ℕ → Chunks
-chunksOf zero bs = cut
-chunksOf (suc n) [] = cut
-chunksOf (suc n) (b ∷ bs) = let more = b % 128 onto chunksOf n bs in cond (ltb b 128) (chunks (b ∷ [])) more
+abbrev pub chunks : List ℕ → List ℕ
+chunks bs = map (λ b. b % 128) bs
 
-abbrev pub chunksAt : List ℕ → ℕ → Chunks
-chunksAt s at = chunksOf 10 (drop at s)
-
+-- the tenth byte, or 0 where there are fewer: what may stand there ends the number
 abbrev pub tenth : List ℕ → ℕ
-tenth cs = getD cs 9 0
+tenth bs = getD bs 9 0
 
-abbrev pub last : List ℕ → ℕ
-last cs = getD cs (length cs - 1) 0
+-- ---- unsigned: the chunks are digits, and a tenth byte is bit 63
 
--- ---- unsigned
+abbrev pub unsigned : List ℕ → ℕ
+unsigned bs = fromDigits 128 (chunks bs)
 
-abbrev pub unsignedOf : ℕ → Chunks → Number
-unsignedOf at (chunks cs) = cond (ltb (tenth cs) 2) (number.Value (fromDigits 128 cs) (at + length cs)) number.Fault
-unsignedOf at cut = number.Fault
+abbrev pub ulebOf : ℕ → Run → Number
+ulebOf at (run bs) = cond (ltb (tenth bs) 2) (number.Value (unsigned bs) (at + length bs)) number.Fault
+ulebOf at endless = number.Fault
 
 unfoldable pub ulebAt : List ℕ → ℕ → Number
-ulebAt s at = unsignedOf at (chunksAt s at)
+ulebAt s at = ulebOf at (bytesAt s at)
 
--- ---- signed: the sign is bit 6 of the last byte
+-- ---- signed: bit 6 of the last byte is the sign, and a tenth byte is the sign alone
+
+abbrev pub negative : List ℕ → Bool
+negative bs = leb 64 (getD bs (length bs - 1) 0)
 
 abbrev pub signExtended : List ℕ → ℤ
-signExtended cs = cond (ltb (last cs) 64) (pos (fromDigits 128 cs)) (pos (fromDigits 128 cs) -ℤ pos (128 ^ length cs))
+signExtended bs = cond (negative bs) (pos (unsigned bs) -ℤ pos (128 ^ length bs)) (pos (unsigned bs))
 
-abbrev pub signedOf : ℕ → Chunks → Signed
-signedOf at (chunks cs) =
-    cond (eqb (tenth cs) 0x00 || eqb (tenth cs) 0x7f)
-    (signed.Value (signExtended cs) (at + length cs))
+abbrev pub slebOf : ℕ → Run → Signed
+slebOf at (run bs) =
+    cond (eqb (tenth bs) 0x00 || eqb (tenth bs) 0x7f)
+    (signed.Value (signExtended bs) (at + length bs))
     signed.Fault
-signedOf at cut = signed.Fault
+slebOf at endless = signed.Fault
 
 unfoldable pub slebAt : List ℕ → ℕ → Signed
-slebAt s at = signedOf at (chunksAt s at)
+slebAt s at = slebOf at (bytesAt s at)

@@ -1,3 +1,4 @@
+pub mod Runs
 pub mod Digits
 pub mod Leb128
 pub mod Gathered

@@ -1,28 +1,19 @@
--- Strings: the bytes up to the first NUL, which must be there and is passed over.
-use Prim.Native.Nat.{ℕ, suc, _+_}
-use mathlib.Core.Bool.{cond}
-use mathlib.Core.List.{List, [], _∷_}
+-- Strings: up to the first NUL, which must be there and is no part of the string.
+use Prim.Native.Nat.{ℕ, _+_, _-_}
+use mathlib.Core.Bool.{Bool}
+use mathlib.Core.List.{List}
 use lib.Dec.{eqb}
-use lib.ListN.{drop}
+use lib.ListN.{length, drop}
+use Rattle.numbers.specs.Runs.{Run, run, endless, runTo}
 use Rattle.numbers.specs.declared.strings.Text.{Text}
 use Rattle.numbers.specs.declared.strings.Text.the-variants.{Found, Fault}
 
-pub data Nul : Type 0 where
-  after : ℕ → Nul
-  none : Nul
+abbrev pub isNul : ℕ → Bool
+isNul b = eqb b 0
 
-abbrev pub further : Nul → Nul
-further (after n) = after (suc n)
-further none = none
-
--- how many bytes stand before the first NUL
-unfoldable pub firstNul : List ℕ → Nul
-firstNul [] = none
-firstNul (b ∷ bs) = cond (eqb b 0) (after 0) (further (firstNul bs))
-
-abbrev pub text : ℕ → Nul → Text
-text at (after n) = Found at n (at + n + 1)
-text at none = Fault
+abbrev pub stringOf : ℕ → Run → Text
+stringOf at (run bs) = Found at (length bs - 1) (at + length bs)
+stringOf at endless = Fault
 
 unfoldable pub stringAt : List ℕ → ℕ → Text
-stringAt s at = text at (firstNul (drop at s))
+stringAt s at = stringOf at (runTo isNul (drop at s))

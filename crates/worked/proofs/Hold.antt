@@ -2,9 +2,10 @@
 use mathlib.Core.Path.{_≡_, refl}
 use mathlib.Core.List.{map}
 use Rattle.numbers.specs.Digits.{fromDigits}
-use Rattle.numbers.specs.Leb128.{chunksOf, ulebAt, slebAt}
+use Rattle.numbers.specs.Leb128.{ulebAt, slebAt}
+use Rattle.numbers.specs.Runs.{runTo}
 use Rattle.worked.specs.Examples.{examples, defined, documented}
 
 pub examples-hold : map defined examples ≡ map documented examples
-unfolding ulebAt slebAt chunksOf fromDigits
+unfolding ulebAt slebAt runTo fromDigits
 examples-hold = refl

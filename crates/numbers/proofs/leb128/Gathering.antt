@@ -1,164 +1,112 @@
--- The chunks of a LEB128 number as a loop gathers them. Assumes nothing.
-use Prim.Native.Nat.{ℕ, zero, suc, _+_, _-_, _*_, _%_, _^_, _≤_, _<_}
+-- The bytes of a LEB128 number as `gather` takes them in. Assumes nothing.
+use Prim.Native.Nat.{ℕ, suc, _+_, _-_, _*_, _%_, _^_, _≤_, _<_}
 use mathlib.Core.Path.{_≡_, refl, ap, sym, _∙_}
-use mathlib.Core.Bool.{cond}
 use mathlib.Core.List.{List, [], _∷_, _++_}
-use native.Mathlib.Decide.{decLt}
 use native.Mathlib.Omega.{arith}
-use native.Mathlib.Nat.{pow-le-pow-right, pow-suc}
-use native.Mathlib.Numerals.{add-one, sub-one}
+use native.Mathlib.Nat.{pow-suc}
+use native.Mathlib.Numerals.{add-one}
 use borrow.Author.Tests.{lt-ltb, le-ltb}
 use lib.Arith.{digits-lt}
-use lib.Dec.{ltb}
-use lib.ListN.{length, getD, drop, length-append, drop-of-length-le}
-use lib.Seq.{drop-cons, append-snoc, take-append-seam, getD-append-seam}
+use lib.ListN.{length, getD, drop, length-append}
+use lib.Seq.{append-snoc, take-append-seam, take-at, getD-append-seam, getD-at}
 use mir.Syntax.{w64}
 use mir.Val.{Fits}
 use Rattle.numbers.specs.Digits.{fromDigits}
-use Rattle.numbers.specs.Leb128.{Chunks, chunks, cut, _onto_, chunksOf, chunksAt}
 use Rattle.numbers.specs.Gathered.{gathered, gatheredAt}
+use Rattle.numbers.specs.Leb128.{isLast, tenth, unsigned}
+use Rattle.numbers.specs.Runs.{Run, run, endless, runTo}
 use Rattle.numbers.specs.declared.leb128.Gathered.{Gathered}
 use Rattle.numbers.specs.declared.leb128.Gathered.the-variants.{Few, Ten, Cut}
-use Rattle.numbers.proofs.Digits.{digits-snoc}
+use Rattle.numbers.proofs.Runs.{Passed, behind, length-snoc, none-passed, one-passed, runs-out, run-ends}
+use Rattle.numbers.proofs.leb128.Chunks.{unsigned-snoc, unsigned-below, weight-rises, nine, eight}
 
--- ---- the definition, by the byte at a place
+-- ---- what is gathered of a run, by its length
 
-no-bytes : (n : ℕ) → chunksOf n [] ≡ cut
-unfolding chunksOf
-no-bytes zero = refl
-no-bytes (suc n) = refl
+module _ (from : ℕ) (ps : List ℕ) (b : ℕ) where
+  pub gathered-few : length ps ≤ 8 → gathered from (run (ps ++ (b ∷ []))) ≡ Few (unsigned ps) (128 ^ length ps) b (from + (length ps + 1))
+  gathered-few h =
+      let e : length ps + 1 - 1 ≡ length ps = omega arith in
+      rw (length-snoc ps b, lt-ltb (length ps + 1) 10 (omega arith), e, take-append-seam ps (b ∷ []), getD-append-seam ps b [] 0)
 
-module _ (n : ℕ) (s : List ℕ) (at : ℕ) where
-  none-left : length s ≤ at → chunksOf n (drop at s) ≡ cut
-  none-left h = rw (drop-of-length-le s h) (no-bytes n)
+  pub gathered-ten : length ps ≡ 9 → b < 128 → gathered from (run (ps ++ (b ∷ []))) ≡ Ten (unsigned ps) b (from + (length ps + 1))
+  gathered-ten h l =
+      let e : 10 ≡ length ps + 1 = omega arith in
+      rw (length-snoc ps b, le-ltb (length ps + 1) 10 (omega arith), getD-at ps b [] 0 9 h, lt-ltb b 128 l, take-at ps (b ∷ []) 9 h)
+      (ap (λ (n : ℕ). Ten (unsigned ps) b (from + n)) e)
 
-  last-chunk : at < length s → getD s at 0 < 128 → chunksOf (suc n) (drop at s) ≡ chunks (getD s at 0 ∷ [])
-  unfolding chunksOf
-  last-chunk h b = rw (drop-cons s at 0 h, lt-ltb (getD s at 0) 128 b)
+pub gathered-long : (from : ℕ) (bs : List ℕ) → 10 ≤ length bs → 128 ≤ tenth bs → gathered from (run bs) ≡ Cut
+gathered-long from bs h l = rw (le-ltb (length bs) 10 h, le-ltb (tenth bs) 128 l)
 
-  more-chunks : at < length s → 128 ≤ getD s at 0 → chunksOf (suc n) (drop at s) ≡ getD s at 0 % 128 onto chunksOf n (drop (at + 1) s)
-  unfolding chunksOf
-  more-chunks h b = rw (drop-cons s at 0 h, le-ltb (getD s at 0) 128 b, add-one at)
+gathered-past : (from : ℕ) (ps : List ℕ) (b : ℕ) → length ps ≡ 9 → 128 ≤ b → (x : Run) → gathered from (behind (ps ++ (b ∷ [])) x) ≡ Cut
+gathered-past from ps b h l (run bs) =
+    let n = length-append (ps ++ (b ∷ [])) bs in
+    let t : tenth (ps ++ (b ∷ []) ++ bs) ≡ b = ap tenth (append-snoc ps b bs) ∙ getD-at ps b bs 0 9 h in
+    gathered-long from (ps ++ (b ∷ []) ++ bs) (omega (arith, n, length-snoc ps b)) (omega (arith, t))
+gathered-past from ps b h l endless = refl
 
--- ---- chunks behind others
-
-abbrev pub behind : List ℕ → Chunks → Chunks
-behind cs (chunks ds) = chunks (cs ++ ds)
-behind cs cut = cut
-
-behind-none : (x : Chunks) → behind [] x ≡ x
-behind-none (chunks ds) = refl
-behind-none cut = refl
-
-behind-more : (cs : List ℕ) (c : ℕ) (x : Chunks) → behind cs (c onto x) ≡ behind (cs ++ (c ∷ [])) x
-behind-more cs c (chunks ds) = ap chunks (sym (append-snoc cs c ds))
-behind-more cs c cut = refl
-
-pub length-snoc : (cs : List ℕ) (c : ℕ) → length (cs ++ (c ∷ [])) ≡ length cs + 1
-length-snoc cs c = length-append cs (c ∷ [])
-
--- the last of some chunks, and those before it
-pub gathered-snoc : (from : ℕ) (cs : List ℕ) (c : ℕ) → gathered from (chunks (cs ++ (c ∷ []))) ≡ cond (ltb (length cs + 1) 10) (Few (fromDigits 128 cs) (128 ^ length cs) c (from + (length cs + 1))) (Ten (fromDigits 128 cs) c (from + (length cs + 1)))
-gathered-snoc from cs c =
-    let e : length cs + 1 - 1 ≡ length cs = omega arith in
-    rw (length-snoc cs c, e, take-append-seam cs (c ∷ []), getD-append-seam cs c [] 0)
-
--- ---- how many chunks a scale has passed
-
-pub power-rises : (n m : ℕ) → n ≤ m → 128 ^ n ≤ 128 ^ m
-power-rises n m h = pow-le-pow-right {n = 128} (omega arith) h
-
-nine : (n : ℕ) → n ≤ 9 → 128 ^ n ≡ 2 ^ 63 → n ≡ 9
-nine n h e =
-    elim (decLt n 9) [ yes l ↦ absurd (omega (arith, power-rises n 8 (omega arith))) | no l ↦ omega arith ]
-
-eight : (n : ℕ) → n ≤ 9 → (128 ^ n ≡ 2 ^ 63 → ⊥) → n ≤ 8
-eight n h e =
-    elim (decLt n 9) [ yes l ↦ omega arith | no l ↦ let q : n ≡ 9 = omega arith in absurd (e (ap (λ (m : ℕ). 128 ^ m) q)) ]
-
--- ---- the loop's invariant: `passed` are the chunks from `from` up to `at`
+-- ---- the loop's invariant
 
 pub record Held (s : List ℕ) (from at low scale : ℕ) : Type 0 where
-  pub passed : List ℕ
-  pub few : length passed ≤ 9
-  pub place : at ≡ from + length passed
-  pub worth : low ≡ fromDigits 128 passed
-  pub power : scale ≡ 128 ^ length passed
-  pub below : low < scale
-  pub rest : chunksAt s from ≡ behind passed (chunksOf (10 - length passed) (drop at s))
+  pub bytes : Passed isLast s from at
+  pub few : length (bytes .passed) ≤ 9
+  pub worth : low ≡ unsigned (bytes .passed)
+  pub power : scale ≡ 128 ^ length (bytes .passed)
 
 pub none-held : (s : List ℕ) (from : ℕ) → Held s from from 0 1
 unfolding fromDigits
 none-held s from =
-    record {
-      passed = [];
-      few = omega arith;
-      place = omega arith;
-      worth = refl;
-      power = refl;
-      below = omega arith;
-      rest = sym (behind-none (chunksAt s from));
-    }
+    record { bytes = none-passed isLast s from; few = omega arith; worth = refl; power = refl }
 
 pub seven-bits : (n : ℕ) → Fits w64 (n % 128)
 seven-bits n = record { fits = omega arith }
 
 module _ {s : List ℕ} {from at low scale : ℕ} (i : Held s from at low scale) where
-  -- what is gathered, from the definition at this place
-  is-gathered : (x : Chunks) → chunksOf (10 - length (i .passed)) (drop at s) ≡ x → gathered from (behind (i .passed) x) ≡ gatheredAt s from
-  unfolding gatheredAt
-  is-gathered x e = sym (ap (gathered from) (i .rest ∙ ap (behind (i .passed)) e))
-
   pub is-out : length s ≤ at → Cut ≡ gatheredAt s from
-  is-out h = is-gathered cut (none-left (10 - length (i .passed)) s at h)
+  unfolding gatheredAt
+  is-out h = sym (ap (gathered from) (runs-out (i .bytes) h))
 
-  -- one chunk more may be there
-  left : 10 - length (i .passed) ≡ suc (9 - length (i .passed))
-  left = omega (arith, i .few)
+  next : at + 1 ≡ from + (length (i .bytes .passed) + 1)
+  next = omega (arith, i .bytes .place)
 
   module _ (h : at < length s) where
-    ends : getD s at 0 < 128 → gathered from (chunks (i .passed ++ (getD s at 0 ∷ []))) ≡ gatheredAt s from
-    ends b =
-        is-gathered (chunks (getD s at 0 ∷ [])) (ap (λ (n : ℕ). chunksOf n (drop at s)) left ∙ last-chunk (9 - length (i .passed)) s at h b)
+    ends : getD s at 0 < 128 → gatheredAt s from ≡ gathered from (run (i .bytes .passed ++ (getD s at 0 ∷ [])))
+    unfolding gatheredAt
+    ends b = ap (gathered from) (run-ends (i .bytes) h (lt-ltb (getD s at 0) 128 b))
 
-    goes-on : 128 ≤ getD s at 0 → chunksOf (10 - length (i .passed)) (drop at s) ≡ getD s at 0 % 128 onto chunksOf (9 - length (i .passed)) (drop (at + 1) s)
-    goes-on b =
-        ap (λ (n : ℕ). chunksOf n (drop at s)) left ∙ more-chunks (9 - length (i .passed)) s at h b
-
-    next : at + 1 ≡ from + (length (i .passed) + 1)
-    next = omega (arith, i .place)
+    abbrev passes : 128 ≤ getD s at 0 → Passed isLast s from (at + 1)
+    passes b = one-passed (i .bytes) h (le-ltb (getD s at 0) 128 b)
 
     module _ (t : scale ≡ 2 ^ 63) where
-      nine-passed : length (i .passed) ≡ 9
-      nine-passed = nine (length (i .passed)) (i .few) (sym (i .power) ∙ t)
+      nine-passed : length (i .bytes .passed) ≡ 9
+      nine-passed = nine (length (i .bytes .passed)) (i .few) (sym (i .power) ∙ t)
 
       pub is-ten : getD s at 0 < 128 → Ten low (getD s at 0) (at + 1) ≡ gatheredAt s from
       is-ten b =
           (λ j. Ten (i .worth j) (getD s at 0) (next j)) ∙
-          sym (gathered-snoc from (i .passed) (getD s at 0) ∙ rw (le-ltb (length (i .passed) + 1) 10 (omega (arith, nine-passed)))) ∙
-          ends b
+          sym (ends b ∙ gathered-ten from (i .bytes .passed) (getD s at 0) nine-passed b)
 
       pub is-cut : 128 ≤ getD s at 0 → Cut ≡ gatheredAt s from
-      unfolding chunksOf
+      unfolding gatheredAt
       is-cut b =
-          let e : 9 - length (i .passed) ≡ 0 = omega (arith, nine-passed) in
-          is-gathered cut (goes-on b ∙ ap (λ (n : ℕ). getD s at 0 % 128 onto chunksOf n (drop (at + 1) s)) e)
+          sym (ap (gathered from) (passes b .rest) ∙ gathered-past from (i .bytes .passed) (getD s at 0) nine-passed b (runTo isLast (drop (at + 1) s)))
 
     module _ (t : scale ≡ 2 ^ 63 → ⊥) where
-      eight-passed : length (i .passed) ≤ 8
-      eight-passed = eight (length (i .passed)) (i .few) (λ e. t (i .power ∙ e))
+      eight-passed : length (i .bytes .passed) ≤ 8
+      eight-passed = eight (length (i .bytes .passed)) (i .few) (λ e. t (i .power ∙ e))
 
       small : scale ≤ 2 ^ 56
-      small = rw (i .power) (power-rises (length (i .passed)) 8 eight-passed)
+      small = rw (i .power) (weight-rises (length (i .bytes .passed)) 8 eight-passed)
 
       pub is-few : getD s at 0 < 128 → Few low scale (getD s at 0) (at + 1) ≡ gatheredAt s from
       is-few b =
           (λ j. Few (i .worth j) (i .power j) (getD s at 0) (next j)) ∙
-          sym (gathered-snoc from (i .passed) (getD s at 0) ∙ rw (lt-ltb (length (i .passed) + 1) 10 (omega (arith, eight-passed)))) ∙
-          ends b
+          sym (ends b ∙ gathered-few from (i .bytes .passed) (getD s at 0) eight-passed)
 
-      within : (b : ℕ) → low + b % 128 * scale < scale * 128
-      within b = let c : b % 128 < 128 = omega arith in omega (arith, digits-lt c (i .below))
+      within : (b : ℕ) → low + b % 128 * scale < 128 * scale
+      within b =
+          let c : b % 128 < 128 = omega arith in
+          let l : low < scale = rw (i .worth, i .power) (unsigned-below (i .bytes .passed)) in
+          omega (arith, digits-lt c l)
 
       pub fits-sum : (b : ℕ) → Fits w64 (low + b % 128 * scale)
       fits-sum b = record { fits = omega (arith, small, within b) }
@@ -171,17 +119,15 @@ module _ {s : List ℕ} {from at low scale : ℕ} (i : Held s from at low scale)
 
       pub is-more : 128 ≤ getD s at 0 → Held s from (at + 1) (low + getD s at 0 % 128 * scale) (scale * 128)
       is-more b =
-          let c = getD s at 0 % 128 in
-          let n = length-snoc (i .passed) c in
-          let e : 9 - length (i .passed) ≡ 10 - length (i .passed ++ (c ∷ [])) = omega (arith, n) in
+          let ps = i .bytes .passed in
+          let c = getD s at 0 in
+          let n = length-snoc ps c in
           record {
-            passed = i .passed ++ (c ∷ []);
+            bytes = passes b;
             few = omega (arith, n, eight-passed);
-            place = omega (arith, n, i .place);
-            worth = omega (arith, i .worth, digits-snoc 128 (i .passed) c, ap (λ (m : ℕ). m * c) (i .power));
-            power = ap (λ (m : ℕ). m * 128) (i .power) ∙ sym (ap (λ (m : ℕ). 128 ^ m) (n ∙ add-one (length (i .passed))) ∙ pow-suc 128 (length (i .passed)));
-            below = within (getD s at 0);
-            rest = i .rest ∙ ap (behind (i .passed)) (goes-on b) ∙ behind-more (i .passed) c (chunksOf (9 - length (i .passed)) (drop (at + 1) s)) ∙ ap (λ (m : ℕ). behind (i .passed ++ (c ∷ [])) (chunksOf m (drop (at + 1) s))) e;
+            worth = omega (arith, i .worth, unsigned-snoc ps c, ap (λ (m : ℕ). m * (c % 128)) (i .power));
+            power = ap (λ (m : ℕ). m * 128) (i .power) ∙ sym (ap (λ (m : ℕ). 128 ^ m) (n ∙ add-one (length ps)) ∙ pow-suc 128 (length ps));
           }
 
+-- what the needs of `gather` are answered by
 pub ruleset gather-laws = (none-held, is-out, is-ten, is-cut, is-few, is-more, seven-bits, fits-sum, fits-product, fits-scale)

@@ -4,20 +4,21 @@ use mathlib.Core.Path.{_≡_, refl, ap, sym, _∙_}
 use mathlib.Core.Bool.{true, _||_}
 use mathlib.Core.List.{List, [], _∷_, _++_}
 use native.Mathlib.Omega.{arith}
-use borrow.Author.Tests.{lt-ltb, le-ltb, ne-eqb}
+use borrow.Author.Tests.{lt-ltb, le-leb, lt-leb, ne-eqb}
 use lib.Arith.{digits-lt}
 use lib.Dec.{eqb}
 use lib.IntN.{ℤ, pos, negsuc, negℤ, subℕ, _+ℤ_, _-ℤ_}
 use mir.Syntax.{w64}
 use mir.Val.{Fits}
 use mir.Facts.{toZ-ofZ}
-use Rattle.numbers.specs.Leb128.{Chunks, signedOf, signExtended, chunksAt, slebAt}
+use Rattle.numbers.specs.Leb128.{tenth, bytesAt, signExtended, slebOf, slebAt}
 use Rattle.numbers.specs.Gathered.{gatheredAt}
+use Rattle.numbers.specs.Runs.{Run, run, endless}
 use Rattle.numbers.specs.declared.leb128.Gathered.{Gathered}
 use Rattle.numbers.specs.declared.leb128.Gathered.the-variants.{Few, Ten, Cut}
 use Rattle.numbers.specs.declared.leb128.Signed.{Signed}
 use Rattle.numbers.specs.declared.leb128.Signed.the-variants.{Value, Fault}
-use Rattle.numbers.proofs.leb128.Views.{Seen, SeenFew, SeenTen, value-is, next-is, weight-is, last-is, value-below, no-tenth, tenth-is, scale-small, seen, few-sum, few-product}
+use Rattle.numbers.proofs.leb128.Views.{Seen, SeenFew, SeenTen, IsCut, low-below, value-is, next-is, weight-is, last-is, value-below, no-tenth, tenth-is, scale-small, seen, few-sum, few-product}
 
 -- ---- a number less a larger one
 
@@ -32,30 +33,35 @@ take-away a m n e h =
 
 module _ {s : List ℕ} {at low scale last next : ℕ} (v : Seen s at low scale last next) where
   extended-plus : last < 64 → signExtended (v .passed ++ (last ∷ [])) ≡ pos (low + last * scale)
-  extended-plus h = rw (last-is v, lt-ltb last 64 h) (ap pos (value-is v))
+  extended-plus h = rw (last-is v, lt-leb 64 last h) (ap pos (value-is v))
 
   complement : scale * 128 - 1 - (low + last * scale) ≡ (127 - last) * scale + (scale - 1 - low)
   complement =
       let e : last + (127 - last) ≡ 127 = omega (arith, v .small) in
-      omega (arith, v .below, v .small, value-below v (v .small), ap (λ (n : ℕ). n * scale) e)
+      omega (arith, low-below v, v .small, value-below v (v .small), ap (λ (n : ℕ). n * scale) e)
 
   extended-minus : 64 ≤ last → signExtended (v .passed ++ (last ∷ [])) ≡ negsuc ((127 - last) * scale + (scale - 1 - low))
   extended-minus h =
-      rw (last-is v, le-ltb last 64 h, value-is v, weight-is v)
-      (take-away (low + last * scale) (scale * 128) (scale * 128 - 1) (omega (arith, v .below)) (omega (arith, value-below v (v .small))) ∙ ap negsuc complement)
+      rw (last-is v, le-leb 64 last h, value-is v, weight-is v)
+      (take-away (low + last * scale) (scale * 128) (scale * 128 - 1) (omega (arith, low-below v)) (omega (arith, value-below v (v .small))) ∙ ap negsuc complement)
 
   minus-below : 64 ≤ last → (127 - last) * scale + (scale - 1 - low) < 64 * scale
   minus-below h =
       let q : 127 - last < 64 = omega arith in
-      let r : scale - 1 - low < scale = omega (arith, v .below) in
+      let r : scale - 1 - low < scale = omega (arith, low-below v) in
       omega (arith, digits-lt q r)
 
 -- ---- what the code answers
 
+no-sleb : (at : ℕ) (x : Run) → IsCut x → Fault ≡ slebOf at x
+no-sleb at (run bs) h =
+    sym (rw (ne-eqb (tenth bs) 0x00 (λ e. omega arith), ne-eqb (tenth bs) 0x7f (λ e. omega arith)))
+no-sleb at endless h = refl
+
 module _ (s : List ℕ) (at : ℕ) {r : Gathered} (g : r ≡ gatheredAt s at) where
   pub cut-sleb : r ≡ Cut → Fault ≡ slebAt s at
   unfolding slebAt
-  cut-sleb f = sym (ap (signedOf at) (seen s at g f))
+  cut-sleb f = no-sleb at (bytesAt s at) (seen s at g f)
 
   module _ {low scale last next : ℕ} (f : r ≡ Few low scale last next) where
     few : SeenFew s at low scale last next
@@ -64,7 +70,7 @@ module _ (s : List ℕ) (at : ℕ) {r : Gathered} (g : r ≡ gatheredAt s at) wh
     few-value : {z : ℤ} → z ≡ signExtended (few .seen .passed ++ (last ∷ [])) → Value z next ≡ slebAt s at
     unfolding slebAt
     few-value e =
-        ap (λ (y : ℤ). Value y next) e ∙ sym (ap (signedOf at) (few .seen .is) ∙ rw (no-tenth few, next-is (few .seen)))
+        ap (λ (y : ℤ). Value y next) e ∙ sym (ap (slebOf at) (few .seen .is) ∙ rw (no-tenth few, next-is (few .seen)))
 
     pub few-plus : {z : ℤ} → last < 64 → z ≡ pos (low + last * scale) → Value z next ≡ slebAt s at
     few-plus h e = few-value (e ∙ sym (extended-plus (few .seen) h))
@@ -76,10 +82,10 @@ module _ (s : List ℕ) (at : ℕ) {r : Gathered} (g : r ≡ gatheredAt s at) wh
     few-last = omega (arith, few .seen .small)
 
     pub few-scale : 1 ≤ scale
-    few-scale = omega (arith, few .seen .below)
+    few-scale = omega (arith, low-below (few .seen))
 
     pub few-low : low ≤ scale - 1
-    few-low = omega (arith, few .seen .below)
+    few-low = omega (arith, low-below (few .seen))
 
     pub plus-below : last < 64 → low + last * scale < 2 ^ 63
     plus-below h = omega (arith, scale-small few, value-below (few .seen) h)
@@ -98,7 +104,7 @@ module _ (s : List ℕ) (at : ℕ) {r : Gathered} (g : r ≡ gatheredAt s at) wh
     ten = seen s at g f
 
     pub ten-low : low < 2 ^ 63
-    ten-low = ten .seen .below
+    ten-low = low-below (ten .seen)
 
     pub ten-most : low ≤ 2 ^ 63 - 1
     ten-most = omega (arith, ten-low)
@@ -106,7 +112,7 @@ module _ (s : List ℕ) (at : ℕ) {r : Gathered} (g : r ≡ gatheredAt s at) wh
     ten-value : (k : ℕ) {z : ℤ} → last ≡ k → (eqb k 0x00 || eqb k 0x7f) ≡ true → z ≡ signExtended (ten .seen .passed ++ (last ∷ [])) → Value z next ≡ slebAt s at
     unfolding slebAt
     ten-value k h t e =
-        ap (λ (y : ℤ). Value y next) e ∙ sym (ap (signedOf at) (ten .seen .is) ∙ rw (tenth-is ten ∙ h, t, next-is (ten .seen)))
+        ap (λ (y : ℤ). Value y next) e ∙ sym (ap (slebOf at) (ten .seen .is) ∙ rw (tenth-is ten ∙ h, t, next-is (ten .seen)))
 
     pub ten-plus : {z : ℤ} → last ≡ 0 → z ≡ pos low → Value z next ≡ slebAt s at
     ten-plus h e =
@@ -118,6 +124,6 @@ module _ (s : List ℕ) (at : ℕ) {r : Gathered} (g : r ≡ gatheredAt s at) wh
 
     pub ten-fault : (last ≡ 0 → ⊥) → (last ≡ 127 → ⊥) → Fault ≡ slebAt s at
     unfolding slebAt
-    ten-fault h l = sym (ap (signedOf at) (ten .seen .is) ∙ rw (tenth-is ten, ne-eqb last 0 h, ne-eqb last 127 l))
+    ten-fault h l = sym (ap (slebOf at) (ten .seen .is) ∙ rw (tenth-is ten, ne-eqb last 0 h, ne-eqb last 127 l))
 
 pub ruleset sleb-laws = (toZ-ofZ, cut-sleb, few-sum, few-product, few-plus, few-minus, few-last, few-scale, few-low, plus-below, minus-small, minus-sum, minus-product, ten-low, ten-most, ten-plus, ten-minus, ten-fault)

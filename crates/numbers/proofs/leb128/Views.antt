@@ -1,33 +1,31 @@
--- What `gather` answers, seen as the chunks of the number: those passed, and the last. Assumes nothing.
-use Prim.Native.Nat.{ℕ, suc, _+_, _-_, _*_, _^_, _≤_, _<_}
+-- What `gather` answers, seen as the bytes of the number: those before the last, and the last. Assumes nothing.
+use Prim.Native.Nat.{ℕ, suc, _+_, _-_, _*_, _%_, _^_, _≤_, _<_}
 use mathlib.Core.Path.{_≡_, refl, ap, sym, _∙_, subst}
-use mathlib.Core.Bool.{Bool, true, false, cond}
 use mathlib.Core.List.{List, [], _∷_, _++_}
+use native.Mathlib.Decide.{decLt}
 use native.Mathlib.Nat.{pow-suc}
 use native.Mathlib.Numerals.{add-one}
 use native.Mathlib.Omega.{arith}
 use borrow.Author.Tests.{ltb-true, ltb-false}
-use lib.Dec.{ltb}
 use lib.Arith.{digits-lt}
-use lib.ListN.{length, getD, drop, length-drop, List·getD-eq-default}
+use lib.ListN.{length, getD, drop, length-drop, List·getD-eq-default, List·getD-append}
 use lib.Seq.{getD-append-seam, getD-at}
 use mir.Syntax.{w64}
 use mir.Val.{Fits}
-use Rattle.numbers.specs.Digits.{fromDigits}
-use Rattle.numbers.specs.Leb128.{Chunks, chunks, cut, chunksOf, chunksAt, tenth}
 use Rattle.numbers.specs.Gathered.{gathered, gatheredAt}
+use Rattle.numbers.specs.Leb128.{isLast, bytesAt, tenth, unsigned}
+use Rattle.numbers.specs.Runs.{Run, run, endless}
 use Rattle.numbers.specs.declared.leb128.Gathered.{Gathered}
 use Rattle.numbers.specs.declared.leb128.Gathered.the-variants.{Few, Ten, Cut}
-use Rattle.numbers.proofs.Digits.{digits-snoc}
-use Rattle.numbers.proofs.leb128.Spelt.{Spelt, IfSpelt, spelt}
-use Rattle.numbers.proofs.leb128.Gathering.{length-snoc, gathered-snoc, power-rises}
+use Rattle.numbers.proofs.Runs.{IsRun, is-run, length-snoc}
+use Rattle.numbers.proofs.leb128.Chunks.{unsigned-snoc, unsigned-below, weight-rises}
+use Rattle.numbers.proofs.leb128.Gathering.{gathered-few, gathered-ten, gathered-long}
 
 pub record Seen (s : List ℕ) (at low scale last next : ℕ) : Type 0 where
   pub passed : List ℕ
-  pub is : chunksAt s at ≡ chunks (passed ++ (last ∷ []))
-  pub worth : low ≡ fromDigits 128 passed
+  pub is : bytesAt s at ≡ run (passed ++ (last ∷ []))
+  pub worth : low ≡ unsigned passed
   pub power : scale ≡ 128 ^ length passed
-  pub below : low < scale
   pub small : last < 128
   pub place : next ≡ at + (length passed + 1)
   pub inside : next ≤ length s
@@ -40,59 +38,81 @@ pub record SeenTen (s : List ℕ) (at low last next : ℕ) : Type 0 where
   pub seen : Seen s at low (2 ^ 63) last next
   pub ten : length (seen .passed) ≡ 9
 
--- what each of the three answers says of the chunks
+-- bytes that never end, or whose tenth does not end them
+abbrev pub IsCut : Run → Type 0
+IsCut (run bs) = 128 ≤ tenth bs
+IsCut endless = Unit {0}
+
+-- what each of the three answers says of the bytes
 abbrev pub View : List ℕ → ℕ → Gathered → Type 0
 View s at (Few low scale last next) = SeenFew s at low scale last next
 View s at (Ten low last next) = SeenTen s at low last next
-View s at Cut = chunksAt s at ≡ cut
+View s at Cut = IsCut (bytesAt s at)
 
-module _ (s : List ℕ) (at : ℕ) {cs : List ℕ} (e : chunksAt s at ≡ chunks cs) (i : Spelt 10 (drop at s) cs) where
-  abbrev whole : (scale : ℕ) → scale ≡ 128 ^ length (i .passed) → Seen s at (fromDigits 128 (i .passed)) scale (i .last) (at + (length (i .passed) + 1))
+module _ (s : List ℕ) (at : ℕ) {bs : List ℕ} (e : bytesAt s at ≡ run bs) (i : IsRun isLast (drop at s) bs) where
+  abbrev whole : (scale : ℕ) → scale ≡ 128 ^ length (i .passed) → Seen s at (unsigned (i .passed)) scale (i .last) (at + (length (i .passed) + 1))
   whole scale p =
       record {
         passed = i .passed;
-        is = e ∙ ap chunks (i .split);
+        is = e ∙ ap run (i .split);
         worth = refl;
         power = p;
-        below = rw p (i .below);
-        small = i .small;
+        small = ltb-true (i .last) 128 (i .stops);
         place = refl;
         inside = omega (arith, i .inside, length-drop at s);
       }
 
-  by-count : (t : Bool) → ltb (length (i .passed) + 1) 10 ≡ t → View s at (cond t (Few (fromDigits 128 (i .passed)) (128 ^ length (i .passed)) (i .last) (at + (length (i .passed) + 1))) (Ten (fromDigits 128 (i .passed)) (i .last) (at + (length (i .passed) + 1))))
-  by-count true f =
-      record {
-        seen = whole (128 ^ length (i .passed)) refl;
-        few = omega (arith, ltb-true (length (i .passed) + 1) 10 f);
-      }
-  by-count false f =
-      let h : length (i .passed) ≡ 9 = omega (arith, i .few, ltb-false (length (i .passed) + 1) 10 f) in
-      record { seen = whole (2 ^ 63) (sym (ap (λ (n : ℕ). 128 ^ n) h)); ten = h }
+  view-few : length (i .passed) ≤ 8 → View s at (gathered at (run bs))
+  view-few h =
+      subst (View s at) (sym (ap (λ (cs : List ℕ). gathered at (run cs)) (i .split) ∙ gathered-few at (i .passed) (i .last) h))
+      (record { seen = whole (128 ^ length (i .passed)) refl; few = h })
 
-view-of : (s : List ℕ) (at : ℕ) (x : Chunks) → chunksAt s at ≡ x → IfSpelt 10 (drop at s) x → View s at (gathered at x)
-view-of s at (chunks cs) e i =
-    rw (i .split, gathered-snoc at (i .passed) (i .last)) (by-count s at e i (ltb (length (i .passed) + 1) 10) refl)
-view-of s at cut e i = e
+  view-ten : length (i .passed) ≡ 9 → View s at (gathered at (run bs))
+  view-ten h =
+      subst (View s at) (sym (ap (λ (cs : List ℕ). gathered at (run cs)) (i .split) ∙ gathered-ten at (i .passed) (i .last) h (ltb-true (i .last) 128 (i .stops))))
+      (record { seen = whole (2 ^ 63) (sym (ap (λ (m : ℕ). 128 ^ m) h)); ten = h })
+
+  view-long : 9 < length (i .passed) → View s at (gathered at (run bs))
+  view-long h =
+      let t : tenth bs ≡ getD (i .passed) 9 0 = ap tenth (i .split) ∙ List·getD-append (i .passed) (i .last ∷ []) 0 9 h in
+      let l : 128 ≤ tenth bs = omega (arith, t, ltb-false (getD (i .passed) 9 0) 128 (i .goes 9 h)) in
+      let k : 10 ≤ length bs = omega (arith, ap length (i .split), length-snoc (i .passed) (i .last)) in
+      subst (View s at) (sym (gathered-long at bs k l)) (subst IsCut (sym e) l)
+
+  view-run : View s at (gathered at (run bs))
+  view-run =
+      elim (decLt (length (i .passed)) 9) [
+        | yes h ↦ view-few (omega arith)
+        | no h ↦ elim (decLt 9 (length (i .passed))) [ yes l ↦ view-long l | no l ↦ view-ten (omega arith) ]
+      ]
+
+view-of : (s : List ℕ) (at : ℕ) (x : Run) → bytesAt s at ≡ x → View s at (gathered at x)
+view-of s at (run bs) e = view-run s at e (is-run isLast (drop at s) e)
+view-of s at endless e = subst IsCut (sym e) tt
 
 pub view : (s : List ℕ) (at : ℕ) → View s at (gatheredAt s at)
 unfolding gatheredAt
-view s at = view-of s at (chunksAt s at) refl (spelt 10 (drop at s))
+view s at = view-of s at (bytesAt s at) refl
 
--- ---- what follows of the chunks
+-- ---- what follows of the bytes
 
 module _ {s : List ℕ} {at low scale last next : ℕ} (v : Seen s at low scale last next) where
-  pub value-is : fromDigits 128 (v .passed ++ (last ∷ [])) ≡ low + last * scale
-  value-is = omega (arith, v .worth, digits-snoc 128 (v .passed) last, ap (λ (n : ℕ). n * last) (v .power))
+  pub low-below : low < scale
+  low-below = rw (v .worth, v .power) (unsigned-below (v .passed))
+
+  pub value-is : unsigned (v .passed ++ (last ∷ [])) ≡ low + last * scale
+  value-is =
+      let e : last % 128 ≡ last = omega (arith, v .small) in
+      omega (arith, v .worth, unsigned-snoc (v .passed) last, ap (λ (m : ℕ). 128 ^ length (v .passed) * m) e, ap (λ (m : ℕ). m * last) (v .power))
 
   pub next-is : at + length (v .passed ++ (last ∷ [])) ≡ next
   next-is = omega (arith, v .place, length-snoc (v .passed) last)
 
   pub weight-is : 128 ^ length (v .passed ++ (last ∷ [])) ≡ scale * 128
   weight-is =
-      ap (λ (n : ℕ). 128 ^ n) (length-snoc (v .passed) last ∙ add-one (length (v .passed))) ∙
+      ap (λ (m : ℕ). 128 ^ m) (length-snoc (v .passed) last ∙ add-one (length (v .passed))) ∙
       pow-suc 128 (length (v .passed)) ∙
-      ap (λ (n : ℕ). n * 128) (sym (v .power))
+      ap (λ (m : ℕ). m * 128) (sym (v .power))
 
   pub last-is : getD (v .passed ++ (last ∷ [])) (length (v .passed ++ (last ∷ [])) - 1) 0 ≡ last
   last-is =
@@ -100,17 +120,18 @@ module _ {s : List ℕ} {at low scale last next : ℕ} (v : Seen s at low scale 
       rw (e, getD-append-seam (v .passed) last [] 0)
 
   pub value-below : {b : ℕ} → last < b → low + last * scale < b * scale
-  value-below h = omega (arith, digits-lt h (v .below))
+  value-below h = omega (arith, digits-lt h low-below)
 
-pub no-tenth : {s : List ℕ} {at low scale last next : ℕ} (v : SeenFew s at low scale last next) → tenth (v .seen .passed ++ (last ∷ [])) ≡ 0
-no-tenth {last = last} v =
-    List·getD-eq-default (v .seen .passed ++ (last ∷ [])) 0 (omega (arith, v .few, length-snoc (v .seen .passed) last))
+module _ {s : List ℕ} {at low scale last next : ℕ} (v : SeenFew s at low scale last next) where
+  pub no-tenth : tenth (v .seen .passed ++ (last ∷ [])) ≡ 0
+  no-tenth =
+      List·getD-eq-default (v .seen .passed ++ (last ∷ [])) 0 (omega (arith, v .few, length-snoc (v .seen .passed) last))
+
+  pub scale-small : scale ≤ 2 ^ 56
+  scale-small = rw (v .seen .power) (weight-rises (length (v .seen .passed)) 8 (v .few))
 
 pub tenth-is : {s : List ℕ} {at low last next : ℕ} (v : SeenTen s at low last next) → tenth (v .seen .passed ++ (last ∷ [])) ≡ last
 tenth-is {last = last} v = getD-at (v .seen .passed) last [] 0 9 (v .ten)
-
-pub scale-small : {s : List ℕ} {at low scale last next : ℕ} → SeenFew s at low scale last next → scale ≤ 2 ^ 56
-scale-small v = rw (v .seen .power) (power-rises (length (v .seen .passed)) 8 (v .few))
 
 -- ---- the same, from what a call of `gather` promises and the arm of a match on it
 

@@ -2,12 +2,14 @@
 use Prim.Native.Nat.{_-_}
 use native.Mathlib.Omega.{arith}
 use lib.ListN.{length}
-use Rattle.numbers.proofs.strings.Nuls.{Passed, string-laws}
+use Rattle.numbers.specs.Strings.{isNul}
+use Rattle.numbers.proofs.Runs.{Passed}
+use Rattle.numbers.proofs.strings.Nuls.{string-laws}
 use Rattle.numbers.proofs.strings.read_string.Statement.{statement}
 use Rattle.numbers.proofs.strings.read_string.Tie as tie
 
 abbrev Inv-loop : tie.InvT-loop
-Inv-loop s from at₀ at = Passed s from at
+Inv-loop s from at₀ at = Passed isNul s from at
 
 abbrev μ-loop : tie.MeasureT-loop
 μ-loop s from at₀ at = length s - at
