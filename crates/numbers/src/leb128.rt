@@ -48,6 +48,7 @@ pub fn read_sleb(s: &[u8], at: usize) -> Signed
             if last < 64 {
                 Signed::Value(plus(low + (last as u64) * scale), next)
             } else {
+                // The number with each of its bits flipped, and flipped back.
                 Signed::Value(
                     minus(((127 - last) as u64) * scale + (scale - 1 - low)),
                     next,
@@ -67,11 +68,11 @@ pub fn read_sleb(s: &[u8], at: usize) -> Signed
     }
 }
 
-// What the tenth chunk counts: 128^9.
+// What a tenth byte counts: 128^9.
 const TENTH: u64 = 0x8000_0000_0000_0000;
 
-// The chunks of a number, gathered: those before the last are worth `low`, and the last counts
-// `scale` times.
+// The bytes of a number: those before the last are worth `low`, and the last counts `scale` times;
+// of ten bytes, TENTH times. Cut where none of ten bytes is the last.
 enum Gathered {
     Few {
         low: u64,
@@ -87,6 +88,7 @@ enum Gathered {
     Cut,
 }
 
+// The bytes of the number at a place, of either sign.
 fn gather(s: &[u8], from: usize) -> Gathered
     ensures { λ r. ⌜ r ≡ gatheredAt (now (s .entry)) from ⌝ }
 {

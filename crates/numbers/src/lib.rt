@@ -1,5 +1,5 @@
-// Numbers, strings and parts of a slice of bytes, read at a place. No place and no bytes are refused:
-// what is not there is a fault.
+// Numbers, strings and parts of a slice, read at a place. Any place and any bytes get an answer: what
+// is not there is a fault.
 pub mod leb128;
 pub mod little_endian;
 pub mod parts;

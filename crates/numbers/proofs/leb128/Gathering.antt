@@ -1,5 +1,5 @@
 -- The bytes of a LEB128 number as `gather` takes them in. Assumes nothing.
-use Prim.Native.Nat.{ℕ, suc, _+_, _-_, _*_, _%_, _^_, _≤_, _<_}
+use Prim.Native.Nat.{ℕ, _+_, _-_, _*_, _%_, _^_, _≤_, _<_}
 use mathlib.Core.Path.{_≡_, refl, ap, sym, _∙_}
 use mathlib.Core.List.{List, [], _∷_, _++_}
 use native.Mathlib.Omega.{arith}
@@ -15,7 +15,6 @@ use Rattle.numbers.specs.Digits.{fromDigits}
 use Rattle.numbers.specs.Gathered.{gathered, gatheredAt}
 use Rattle.numbers.specs.Leb128.{isLast, tenth, unsigned}
 use Rattle.numbers.specs.Runs.{Run, run, endless, runTo}
-use Rattle.numbers.specs.declared.leb128.Gathered.{Gathered}
 use Rattle.numbers.specs.declared.leb128.Gathered.the-variants.{Few, Ten, Cut}
 use Rattle.numbers.proofs.Runs.{Passed, behind, length-snoc, none-passed, one-passed, runs-out, run-ends}
 use Rattle.numbers.proofs.leb128.Chunks.{unsigned-snoc, unsigned-below, weight-rises, nine, eight}

@@ -7,7 +7,7 @@ use native.Mathlib.Omega.{arith}
 use borrow.Author.Tests.{lt-ltb, le-leb, lt-leb, ne-eqb}
 use lib.Arith.{digits-lt}
 use lib.Dec.{eqb}
-use lib.IntN.{ℤ, pos, negsuc, negℤ, subℕ, _+ℤ_, _-ℤ_}
+use lib.IntN.{ℤ, pos, negsuc, subℕ, _-ℤ_}
 use mir.Syntax.{w64}
 use mir.Val.{Fits}
 use mir.Facts.{toZ-ofZ}
@@ -16,7 +16,6 @@ use Rattle.numbers.specs.Gathered.{gatheredAt}
 use Rattle.numbers.specs.Runs.{Run, run, endless}
 use Rattle.numbers.specs.declared.leb128.Gathered.{Gathered}
 use Rattle.numbers.specs.declared.leb128.Gathered.the-variants.{Few, Ten, Cut}
-use Rattle.numbers.specs.declared.leb128.Signed.{Signed}
 use Rattle.numbers.specs.declared.leb128.Signed.the-variants.{Value, Fault}
 use Rattle.numbers.proofs.leb128.Views.{Seen, SeenFew, SeenTen, IsCut, low-below, value-is, next-is, weight-is, last-is, value-below, no-tenth, tenth-is, scale-small, seen, few-sum, few-product}
 

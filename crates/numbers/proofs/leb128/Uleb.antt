@@ -1,7 +1,7 @@
 -- The unsigned number, from its chunks. Assumes nothing.
 use Prim.Native.Nat.{ℕ, _+_, _*_, _^_, _≤_, _<_}
 use mathlib.Core.Path.{_≡_, refl, ap, sym, _∙_}
-use mathlib.Core.List.{List, [], _∷_, _++_}
+use mathlib.Core.List.{List}
 use native.Mathlib.Omega.{arith}
 use borrow.Author.Tests.{lt-ltb, le-ltb}
 use mir.Syntax.{w64}
@@ -11,7 +11,6 @@ use Rattle.numbers.specs.Gathered.{gatheredAt}
 use Rattle.numbers.specs.Runs.{Run, run, endless}
 use Rattle.numbers.specs.declared.leb128.Gathered.{Gathered}
 use Rattle.numbers.specs.declared.leb128.Gathered.the-variants.{Few, Ten, Cut}
-use Rattle.numbers.specs.declared.Number.{Number}
 use Rattle.numbers.specs.declared.Number.the-variants.{Value, Fault}
 use Rattle.numbers.proofs.leb128.Views.{SeenFew, SeenTen, IsCut, value-is, next-is, value-below, no-tenth, tenth-is, seen, few-sum, few-product}
 

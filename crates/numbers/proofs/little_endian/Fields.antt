@@ -1,20 +1,17 @@
 -- Laws of little-endian fields, over their width. Assumes nothing.
 use Prim.Native.Nat.{ℕ, zero, suc, _+_, _-_, _*_, _^_, _≤_, _<_}
-use mathlib.Core.Path.{_≡_, refl, ap, sym, _∙_, subst}
-use mathlib.Core.Bool.{Bool, true, false}
+use mathlib.Core.Path.{_≡_, ap, sym, _∙_}
 use mathlib.Core.List.{List, [], _∷_}
 use native.Mathlib.Omega.{arith}
 use native.Mathlib.Nat.{mul-le-mul, one-le-pow, pow-le-pow-right}
 use borrow.Author.Tests.{le-leb, lt-leb}
 use lib.Arith.{digits-lt}
-use lib.Dec.{leb}
 use lib.ListN.{length, getD, take, drop, length-drop}
 use lib.Seq.{take-add, take-nil, drop-nil, drop-drop, drop-cons, length-take-le}
 use mir.Syntax.{w8, w64}
 use mir.Val.{Fits}
 use Rattle.numbers.specs.Digits.{fromDigits}
 use Rattle.numbers.specs.LittleEndian.{littleEndian, fieldAt}
-use Rattle.numbers.specs.declared.Number.{Number}
 use Rattle.numbers.specs.declared.Number.the-variants.{Value, Fault}
 use Rattle.numbers.proofs.Digits.{digits-append, digit-below}
 

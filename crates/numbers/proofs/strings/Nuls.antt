@@ -6,7 +6,6 @@ use native.Mathlib.Omega.{arith}
 use borrow.Author.Tests.{eq-eqb, ne-eqb}
 use lib.ListN.{length, getD}
 use Rattle.numbers.specs.Strings.{isNul, stringOf, stringAt}
-use Rattle.numbers.specs.declared.strings.Text.{Text}
 use Rattle.numbers.specs.declared.strings.Text.the-variants.{Found, Fault}
 use Rattle.numbers.proofs.Runs.{Passed, length-snoc, none-passed, one-passed, runs-out, run-ends}
 
