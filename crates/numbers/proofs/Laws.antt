@@ -16,7 +16,7 @@ use Rattle.numbers.specs.Gathered.{gatheredAt}
 use Rattle.numbers.specs.Leb128.{ulebAt, slebAt}
 use Rattle.numbers.specs.LittleEndian.{littleEndian, fieldAt}
 use Rattle.numbers.specs.Parts.{partOf}
-use Rattle.numbers.specs.Runs.{Run, run, endless, runTo}
+use Rattle.numbers.specs.Runs.{Run, run, unended, runTo}
 use Rattle.numbers.specs.Strings.{isNul, stringOf, stringAt}
 use Rattle.numbers.specs.declared.Number.{Number}
 use Rattle.numbers.specs.declared.Number.the-variants as number
@@ -37,8 +37,17 @@ pub record Within (s : List ℕ) (at next : ℕ) : Type 0 where
   pub beyond : at < next
   pub inside : next ≤ length s
 
-seen-within : {s : List ℕ} {at low scale last next : ℕ} → Seen s at low scale last next → Within s at next
-seen-within v = record { beyond = omega (arith, v .place); inside = v .inside }
+-- ---- LEB128 of either sign
+
+within : {s : List ℕ} {at low scale last next : ℕ} → Seen s at low scale last next → Within s at next
+within v = record { beyond = omega (arith, v .place); inside = v .inside }
+
+module _ (s : List ℕ) (at : ℕ) where
+  few-within : {low scale last next : ℕ} → gatheredAt s at ≡ Few low scale last next → Within s at next
+  few-within f = within (seen s at refl f .seen)
+
+  ten-within : {low last next : ℕ} → gatheredAt s at ≡ Ten low last next → Within s at next
+  ten-within f = within (seen s at refl f .seen)
 
 -- ---- unsigned LEB128: a value is below 2^64
 
@@ -54,11 +63,11 @@ module _ (s : List ℕ) (at : ℕ) where
   uleb-of : (y : Gathered) → gatheredAt s at ≡ y → IfUleb s at (ulebAt s at)
   uleb-of (Few low scale last next) f =
       subst (IfUleb s at) (few-uleb s at refl f)
-      (record { within = seen-within (seen s at refl f .seen); below = few-sum s at refl f .fits })
+      (record { within = few-within s at f; below = few-sum s at refl f .fits })
   uleb-of (Ten low last next) f =
       elim (decLt last 2) [
         | yes h ↦ subst (IfUleb s at) (ten-uleb s at refl f h)
-            (record { within = seen-within (seen s at refl f .seen); below = ten-fits s at refl f h .fits })
+            (record { within = ten-within s at f; below = ten-fits s at refl f h .fits })
         | no h ↦ subst (IfUleb s at) (ten-large s at refl f (omega arith)) tt
       ]
   uleb-of Cut f = subst (IfUleb s at) (cut-uleb s at refl f) tt
@@ -81,18 +90,18 @@ module _ (s : List ℕ) (at : ℕ) where
   sleb-of (Few low scale last next) f =
       elim (decLt last 64) [
         | yes h ↦ subst (IfSleb s at) (few-plus s at refl f h refl)
-            (record { within = seen-within (seen s at refl f .seen); fits = record { sfits = plus-below s at refl f h } })
+            (record { within = few-within s at f; fits = record { sfits = plus-below s at refl f h } })
         | no h ↦ let l : 64 ≤ last = omega arith in
             subst (IfSleb s at) (few-minus s at refl f l refl)
-            (record { within = seen-within (seen s at refl f .seen); fits = record { sfits = minus-small s at refl f l } })
+            (record { within = few-within s at f; fits = record { sfits = minus-small s at refl f l } })
       ]
   sleb-of (Ten low last next) f =
       elim (ℕ-discrete last 0) [
         | yes h ↦ subst (IfSleb s at) (ten-plus s at refl f h refl)
-            (record { within = seen-within (seen s at refl f .seen); fits = record { sfits = ten-low s at refl f } })
+            (record { within = ten-within s at f; fits = record { sfits = ten-low s at refl f } })
         | no h ↦ elim (ℕ-discrete last 127) [
           | yes l ↦ subst (IfSleb s at) (ten-minus s at refl f l refl)
-              (record { within = seen-within (seen s at refl f .seen); fits = record { sfits = omega arith } })
+              (record { within = ten-within s at f; fits = record { sfits = omega arith } })
           | no l ↦ subst (IfSleb s at) (ten-fault s at refl f h l) tt
         ]
       ]
@@ -122,7 +131,7 @@ module _ (s : List ℕ) (at : ℕ) where
         starts = refl;
         ends = omega (arith, n);
       }
-  string-of endless e = tt
+  string-of unended e = tt
 
   pub string-read : {r : Text} {start len next : ℕ} → r ≡ stringAt s at → r ≡ string.Found start len next → StringRead s at start len next
   unfolding stringAt

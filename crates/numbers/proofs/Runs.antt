@@ -7,7 +7,7 @@ use native.Mathlib.Numerals.{add-one}
 use native.Mathlib.Omega.{arith}
 use lib.ListN.{length, getD, drop, length-append, drop-of-length-le}
 use lib.Seq.{append-snoc, drop-cons}
-use Rattle.numbers.specs.Runs.{Run, run, endless, before, runTo}
+use Rattle.numbers.specs.Runs.{Run, run, unended, before, runTo}
 
 pub length-snoc : (bs : List ℕ) (b : ℕ) → length (bs ++ (b ∷ [])) ≡ length bs + 1
 length-snoc bs b = length-append bs (b ∷ [])
@@ -15,20 +15,20 @@ length-snoc bs b = length-append bs (b ∷ [])
 -- a run behind other bytes
 abbrev pub behind : List ℕ → Run → Run
 behind ps (run bs) = run (ps ++ bs)
-behind ps endless = endless
+behind ps unended = unended
 
 pub behind-none : (x : Run) → behind [] x ≡ x
 behind-none (run bs) = refl
-behind-none endless = refl
+behind-none unended = refl
 
 pub behind-more : (ps : List ℕ) (b : ℕ) (x : Run) → behind ps (before b x) ≡ behind (ps ++ (b ∷ [])) x
 behind-more ps b (run bs) = ap run (sym (append-snoc ps b bs))
-behind-more ps b endless = refl
+behind-more ps b unended = refl
 
 -- ---- a run by the byte at a place
 
 module _ (ends : ℕ → Bool) (s : List ℕ) (at : ℕ) where
-  none-left : length s ≤ at → runTo ends (drop at s) ≡ endless
+  none-left : length s ≤ at → runTo ends (drop at s) ≡ unended
   unfolding runTo
   none-left h = rw (drop-of-length-le s h)
 
@@ -52,7 +52,7 @@ none-passed ends s from =
     record { passed = []; place = omega arith; rest = sym (behind-none (runTo ends (drop from s))) }
 
 module _ {ends : ℕ → Bool} {s : List ℕ} {from at : ℕ} (i : Passed ends s from at) where
-  pub runs-out : length s ≤ at → runTo ends (drop from s) ≡ endless
+  pub runs-out : length s ≤ at → runTo ends (drop from s) ≡ unended
   runs-out h = i .rest ∙ ap (behind (i .passed)) (none-left ends s at h)
 
   pub run-ends : at < length s → ends (getD s at 0) ≡ true → runTo ends (drop from s) ≡ run (i .passed ++ (getD s at 0 ∷ []))
@@ -79,7 +79,7 @@ pub record IsRun (ends : ℕ → Bool) (from bs : List ℕ) : Type 0 where
 
 abbrev IfRun : (ℕ → Bool) → List ℕ → Run → Type 0
 IfRun ends from (run bs) = IsRun ends from bs
-IfRun ends from endless = Unit {0}
+IfRun ends from unended = Unit {0}
 
 module _ (ends : ℕ → Bool) where
   goes-before : (b : ℕ) (ps : List ℕ) → ends b ≡ false → ((i : ℕ) → i < length ps → ends (getD ps i 0) ≡ false) → (i : ℕ) → i < length (b ∷ ps) → ends (getD (b ∷ ps) i 0) ≡ false
@@ -96,7 +96,7 @@ module _ (ends : ℕ → Bool) where
         stops = i .stops;
         inside = omega (arith, i .inside);
       }
-  one-before b from e endless i = tt
+  one-before b from e unended i = tt
 
   one-byte : (b : ℕ) (from : List ℕ) → ends b ≡ true → IsRun ends (b ∷ from) (b ∷ [])
   one-byte b from e =

@@ -1,12 +1,12 @@
--- What the readers of LEB128 hold of a number, for either sign: what the bytes before the last are worth, what the last counts, and
--- the last.
+-- The contract of the private `gather`, which no public promise cites: what the bytes before the last are worth, what the last counts,
+-- the last, and the place behind it.
 use Prim.Native.Nat.{ℕ, _+_, _-_, _^_}
 use mathlib.Core.Bool.{cond}
 use mathlib.Core.List.{List}
 use lib.Dec.{ltb}
 use lib.ListN.{length, getD, take}
 use Rattle.numbers.specs.Leb128.{bytesAt, tenth, unsigned}
-use Rattle.numbers.specs.Runs.{Run, run, endless}
+use Rattle.numbers.specs.Runs.{Run, run, unended}
 use Rattle.numbers.specs.declared.leb128.Gathered.{Gathered}
 use Rattle.numbers.specs.declared.leb128.Gathered.the-variants.{Few, Ten, Cut}
 
@@ -17,7 +17,7 @@ gathered at (run bs) =
     (cond (ltb (tenth bs) 128)
     (Ten (unsigned (take 9 bs)) (tenth bs) (at + 10))
     Cut)
-gathered at endless = Cut
+gathered at unended = Cut
 
 unfoldable pub gatheredAt : List ℕ → ℕ → Gathered
 gatheredAt s at = gathered at (bytesAt s at)

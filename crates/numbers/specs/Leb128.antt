@@ -1,5 +1,6 @@
 -- LEB128, as DWARF 5 has it (7.6): an integer is chopped into chunks of seven bits, the low order end first, a chunk to a byte; the
--- high order bit is set on each byte except the last. Of at most ten bytes: 64 bits are nine chunks and a bit.
+-- high order bit is set on each byte except the last. DWARF sets no limit. Here a number has at most ten bytes, since 64 bits are nine
+-- chunks and a bit. A `Value` is the number and the place behind it.
 use Prim.Native.Nat.{ℕ, _+_, _-_, _%_, _^_}
 use mathlib.Core.Bool.{Bool, cond, _||_}
 use mathlib.Core.List.{List, map}
@@ -7,7 +8,7 @@ use lib.Dec.{leb, ltb, eqb}
 use lib.IntN.{ℤ, pos, _-ℤ_}
 use lib.ListN.{length, getD, drop}
 use Rattle.numbers.specs.Digits.{fromDigits}
-use Rattle.numbers.specs.Runs.{Run, run, endless, runTo}
+use Rattle.numbers.specs.Runs.{Run, run, unended, runTo}
 use Rattle.numbers.specs.declared.Number.{Number}
 use Rattle.numbers.specs.declared.Number.the-variants as number
 use Rattle.numbers.specs.declared.leb128.Signed.{Signed}
@@ -24,7 +25,7 @@ bytesAt s at = runTo isLast (drop at s)
 abbrev pub chunks : List ℕ → List ℕ
 chunks bs = map (λ b. b % 128) bs
 
--- the tenth byte, or 0 where there are fewer: what may stand there ends the number
+-- the tenth byte, or 0 where there are fewer. Of a number that goes on past ten bytes it is 128 or more, which neither rule below takes
 abbrev pub tenth : List ℕ → ℕ
 tenth bs = getD bs 9 0
 
@@ -35,13 +36,14 @@ unsigned bs = fromDigits 128 (chunks bs)
 
 abbrev pub ulebOf : ℕ → Run → Number
 ulebOf at (run bs) = cond (ltb (tenth bs) 2) (number.Value (unsigned bs) (at + length bs)) number.Fault
-ulebOf at endless = number.Fault
+ulebOf at unended = number.Fault
 
 unfoldable pub ulebAt : List ℕ → ℕ → Number
 ulebAt s at = ulebOf at (bytesAt s at)
 
--- ---- signed: bit 6 of the last byte is the sign, and a tenth byte is the sign alone
+-- ---- signed: the sign of the last chunk is extended, and a tenth byte is the sign alone
 
+-- bit 6 of the last byte, which is below 128
 abbrev pub negative : List ℕ → Bool
 negative bs = leb 64 (getD bs (length bs - 1) 0)
 
@@ -53,7 +55,7 @@ slebOf at (run bs) =
     cond (eqb (tenth bs) 0x00 || eqb (tenth bs) 0x7f)
     (signed.Value (signExtended bs) (at + length bs))
     signed.Fault
-slebOf at endless = signed.Fault
+slebOf at unended = signed.Fault
 
 unfoldable pub slebAt : List ℕ → ℕ → Signed
 slebAt s at = slebOf at (bytesAt s at)

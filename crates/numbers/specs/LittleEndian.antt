@@ -1,4 +1,4 @@
--- Fields of n bytes, the lowest byte first.
+-- Fields of n bytes, the lowest byte first. A `Value` is the number and the place behind it.
 use Prim.Native.Nat.{ℕ, _+_}
 use mathlib.Core.Bool.{cond}
 use mathlib.Core.List.{List}

@@ -5,13 +5,13 @@ use mathlib.Core.List.{List, [], _∷_}
 
 pub data Run : Type 0 where
   run : List ℕ → Run
-  endless : Run  -- no byte ends it
+  unended : Run  -- the bytes run out before one ends it
 
 abbrev pub before : ℕ → Run → Run
 before b (run bs) = run (b ∷ bs)
-before b endless = endless
+before b unended = unended
 
--- the run that these bytes begin with (a `let` waits, so that nothing behind the run is computed)
+-- the run that these bytes begin with (what a `let` binds waits: nothing behind the run is looked at)
 unfoldable pub runTo : (ℕ → Bool) → List ℕ → Run
-runTo ends [] = endless
+runTo ends [] = unended
 runTo ends (b ∷ bs) = let more = before b (runTo ends bs) in cond (ends b) (run (b ∷ [])) more

@@ -72,7 +72,7 @@ pub fn read_sleb(s: &[u8], at: usize) -> Signed
 const TENTH: u64 = 0x8000_0000_0000_0000;
 
 // The bytes of a number: those before the last are worth `low`, and the last counts `scale` times;
-// of ten bytes, TENTH times. Cut where none of ten bytes is the last.
+// of ten bytes, TENTH times. Cut where the bytes, or ten of them, run out before the last.
 enum Gathered {
     Few {
         low: u64,

@@ -14,7 +14,7 @@ fn main() {
     parts();
 }
 
-// DWARF's examples of LEB128.
+// Examples that DWARF gives of LEB128.
 fn examples() {
     reading(b"\x02", 0);
     reading(b"\x7e", 0);
@@ -32,6 +32,7 @@ fn limits() {
     reading(b"\xff\xff\xff\xff\xff\xff\xff\xff\xff\x01", 0);
     reading(b"\xff\xff\xff\xff\xff\xff\xff\xff\xff\x02", 0);
     reading(b"\x80\x80\x80\x80\x80\x80\x80\x80\x80\x7f", 0);
+    reading(b"\x80\x80\x80\x80\x80\x80\x80\x80\x80\x7e", 0);
     reading(b"\x80\x80\x80\x80\x80\x80\x80\x80\x80\x80", 0);
     reading(b"\x80\x80\x80\x80\x80\x80\x80\x80\x80\x80\x00", 0);
 }
@@ -39,8 +40,11 @@ fn limits() {
 // Places in, at the end of and beyond the bytes, and no bytes at all.
 fn places() {
     reading(b"_a\0b\0\x80\x01cde", 0);
+    reading(b"_a\0b\0\x80\x01cde", 2);
     reading(b"_a\0b\0\x80\x01cde", 3);
     reading(b"_a\0b\0\x80\x01cde", 5);
+    reading(b"_a\0b\0\x80\x01cde", 6);
+    reading(b"_a\0b\0\x80\x01cde", 8);
     reading(b"_a\0b\0\x80\x01cde", 9);
     reading(b"_a\0b\0\x80\x01cde", 10);
     reading(b"_a\0b\0\x80\x01cde", 18446744073709551615);

@@ -32,7 +32,7 @@ minus n = negℤ (pos n)
 
 abbrev pub examples : List Example
 examples =
-    -- DWARF 5, section 7.6: the examples of unsigned and of signed LEB128
+    -- of DWARF 5, section 7.6: examples of unsigned and of signed LEB128
     uleb 2 (0x02 ∷ []) ∷
     uleb 127 (0x7f ∷ []) ∷
     uleb 128 (0x80 ∷ 0x01 ∷ []) ∷

@@ -14,10 +14,10 @@ use mir.Val.{Fits}
 use Rattle.numbers.specs.Digits.{fromDigits}
 use Rattle.numbers.specs.Gathered.{gathered, gatheredAt}
 use Rattle.numbers.specs.Leb128.{isLast, tenth, unsigned}
-use Rattle.numbers.specs.Runs.{Run, run, endless, runTo}
+use Rattle.numbers.specs.Runs.{Run, run, unended, runTo}
 use Rattle.numbers.specs.declared.leb128.Gathered.the-variants.{Few, Ten, Cut}
 use Rattle.numbers.proofs.Runs.{Passed, behind, length-snoc, none-passed, one-passed, runs-out, run-ends}
-use Rattle.numbers.proofs.leb128.Chunks.{unsigned-snoc, unsigned-below, weight-rises, nine, eight}
+use Rattle.numbers.proofs.leb128.Chunks.{Worth, none-worth, one-more, sum-below, scale-small, nine-passed, eight-passed}
 
 -- ---- what is gathered of a run, by its length
 
@@ -41,23 +41,17 @@ gathered-past from ps b h l (run bs) =
     let n = length-append (ps ++ (b ∷ [])) bs in
     let t : tenth (ps ++ (b ∷ []) ++ bs) ≡ b = ap tenth (append-snoc ps b bs) ∙ getD-at ps b bs 0 9 h in
     gathered-long from (ps ++ (b ∷ []) ++ bs) (omega (arith, n, length-snoc ps b)) (omega (arith, t))
-gathered-past from ps b h l endless = refl
+gathered-past from ps b h l unended = refl
 
 -- ---- the loop's invariant
 
 pub record Held (s : List ℕ) (from at low scale : ℕ) : Type 0 where
   pub bytes : Passed isLast s from at
   pub few : length (bytes .passed) ≤ 9
-  pub worth : low ≡ unsigned (bytes .passed)
-  pub power : scale ≡ 128 ^ length (bytes .passed)
+  pub worth : Worth (bytes .passed) low scale
 
 pub none-held : (s : List ℕ) (from : ℕ) → Held s from from 0 1
-unfolding fromDigits
-none-held s from =
-    record { bytes = none-passed isLast s from; few = omega arith; worth = refl; power = refl }
-
-pub seven-bits : (n : ℕ) → Fits w64 (n % 128)
-seven-bits n = record { fits = omega arith }
+none-held s from = record { bytes = none-passed isLast s from; few = omega arith; worth = none-worth }
 
 module _ {s : List ℕ} {from at low scale : ℕ} (i : Held s from at low scale) where
   pub is-out : length s ≤ at → Cut ≡ gatheredAt s from
@@ -76,57 +70,46 @@ module _ {s : List ℕ} {from at low scale : ℕ} (i : Held s from at low scale)
     passes b = one-passed (i .bytes) h (le-ltb (getD s at 0) 128 b)
 
     module _ (t : scale ≡ 2 ^ 63) where
-      nine-passed : length (i .bytes .passed) ≡ 9
-      nine-passed = nine (length (i .bytes .passed)) (i .few) (sym (i .power) ∙ t)
+      nine : length (i .bytes .passed) ≡ 9
+      nine = nine-passed (i .worth) (i .few) t
 
       pub is-ten : getD s at 0 < 128 → Ten low (getD s at 0) (at + 1) ≡ gatheredAt s from
       is-ten b =
-          (λ j. Ten (i .worth j) (getD s at 0) (next j)) ∙
-          sym (ends b ∙ gathered-ten from (i .bytes .passed) (getD s at 0) nine-passed b)
+          (λ j. Ten (i .worth .worth j) (getD s at 0) (next j)) ∙
+          sym (ends b ∙ gathered-ten from (i .bytes .passed) (getD s at 0) nine b)
 
       pub is-cut : 128 ≤ getD s at 0 → Cut ≡ gatheredAt s from
       unfolding gatheredAt
       is-cut b =
-          sym (ap (gathered from) (passes b .rest) ∙ gathered-past from (i .bytes .passed) (getD s at 0) nine-passed b (runTo isLast (drop (at + 1) s)))
+          sym (ap (gathered from) (passes b .rest) ∙ gathered-past from (i .bytes .passed) (getD s at 0) nine b (runTo isLast (drop (at + 1) s)))
 
     module _ (t : scale ≡ 2 ^ 63 → ⊥) where
-      eight-passed : length (i .bytes .passed) ≤ 8
-      eight-passed = eight (length (i .bytes .passed)) (i .few) (λ e. t (i .power ∙ e))
-
-      small : scale ≤ 2 ^ 56
-      small = rw (i .power) (weight-rises (length (i .bytes .passed)) 8 eight-passed)
+      eight : length (i .bytes .passed) ≤ 8
+      eight = eight-passed (i .worth) (i .few) t
 
       pub is-few : getD s at 0 < 128 → Few low scale (getD s at 0) (at + 1) ≡ gatheredAt s from
       is-few b =
-          (λ j. Few (i .worth j) (i .power j) (getD s at 0) (next j)) ∙
-          sym (ends b ∙ gathered-few from (i .bytes .passed) (getD s at 0) eight-passed)
-
-      within : (b : ℕ) → low + b % 128 * scale < 128 * scale
-      within b =
-          let c : b % 128 < 128 = omega arith in
-          let l : low < scale = rw (i .worth, i .power) (unsigned-below (i .bytes .passed)) in
-          omega (arith, digits-lt c l)
+          (λ j. Few (i .worth .worth j) (i .worth .counts j) (getD s at 0) (next j)) ∙
+          sym (ends b ∙ gathered-few from (i .bytes .passed) (getD s at 0) eight)
 
       pub fits-sum : (b : ℕ) → Fits w64 (low + b % 128 * scale)
-      fits-sum b = record { fits = omega (arith, small, within b) }
+      fits-sum b =
+          let c : b % 128 < 128 = omega arith in
+          record { fits = omega (arith, scale-small (i .worth) eight, sum-below (i .worth) c) }
 
       pub fits-product : (b : ℕ) → Fits w64 (b % 128 * scale)
-      fits-product b = record { fits = omega (arith, small, within b) }
+      fits-product b = record { fits = omega (arith, fits-sum b .fits) }
 
       pub fits-scale : Fits w64 (scale * 128)
-      fits-scale = record { fits = omega (arith, small) }
+      fits-scale = record { fits = omega (arith, scale-small (i .worth) eight) }
 
       pub is-more : 128 ≤ getD s at 0 → Held s from (at + 1) (low + getD s at 0 % 128 * scale) (scale * 128)
       is-more b =
-          let ps = i .bytes .passed in
-          let c = getD s at 0 in
-          let n = length-snoc ps c in
           record {
             bytes = passes b;
-            few = omega (arith, n, eight-passed);
-            worth = omega (arith, i .worth, unsigned-snoc ps c, ap (λ (m : ℕ). m * (c % 128)) (i .power));
-            power = ap (λ (m : ℕ). m * 128) (i .power) ∙ sym (ap (λ (m : ℕ). 128 ^ m) (n ∙ add-one (length ps)) ∙ pow-suc 128 (length ps));
+            few = omega (arith, length-snoc (i .bytes .passed) (getD s at 0), eight);
+            worth = one-more (i .worth) (getD s at 0);
           }
 
 -- what the needs of `gather` are answered by
-pub ruleset gather-laws = (none-held, is-out, is-ten, is-cut, is-few, is-more, seven-bits, fits-sum, fits-product, fits-scale)
+pub ruleset gather-laws = (none-held, is-out, is-ten, is-cut, is-few, is-more, fits-sum, fits-product, fits-scale)

@@ -13,11 +13,12 @@ use mir.Val.{Fits}
 use mir.Facts.{toZ-ofZ}
 use Rattle.numbers.specs.Leb128.{tenth, bytesAt, signExtended, slebOf, slebAt}
 use Rattle.numbers.specs.Gathered.{gatheredAt}
-use Rattle.numbers.specs.Runs.{Run, run, endless}
+use Rattle.numbers.specs.Runs.{Run, run, unended}
 use Rattle.numbers.specs.declared.leb128.Gathered.{Gathered}
 use Rattle.numbers.specs.declared.leb128.Gathered.the-variants.{Few, Ten, Cut}
 use Rattle.numbers.specs.declared.leb128.Signed.the-variants.{Value, Fault}
-use Rattle.numbers.proofs.leb128.Views.{Seen, SeenFew, SeenTen, IsCut, low-below, value-is, next-is, weight-is, last-is, value-below, no-tenth, tenth-is, scale-small, seen, few-sum, few-product}
+use Rattle.numbers.proofs.leb128.Chunks.{low-below, sum-below}
+use Rattle.numbers.proofs.leb128.Views.{Seen, SeenFew, SeenTen, IsCut, value-is, next-is, weight-is, last-is, no-tenth, tenth-is, seen, few-scale-small, few-sum, few-product}
 
 -- ---- a number less a larger one
 
@@ -37,17 +38,17 @@ module _ {s : List ℕ} {at low scale last next : ℕ} (v : Seen s at low scale 
   complement : scale * 128 - 1 - (low + last * scale) ≡ (127 - last) * scale + (scale - 1 - low)
   complement =
       let e : last + (127 - last) ≡ 127 = omega (arith, v .small) in
-      omega (arith, low-below v, v .small, value-below v (v .small), ap (λ (n : ℕ). n * scale) e)
+      omega (arith, low-below (v .worth), v .small, sum-below (v .worth) (v .small), ap (λ (n : ℕ). n * scale) e)
 
   extended-minus : 64 ≤ last → signExtended (v .passed ++ (last ∷ [])) ≡ negsuc ((127 - last) * scale + (scale - 1 - low))
   extended-minus h =
       rw (last-is v, le-leb 64 last h, value-is v, weight-is v)
-      (take-away (low + last * scale) (scale * 128) (scale * 128 - 1) (omega (arith, low-below v)) (omega (arith, value-below v (v .small))) ∙ ap negsuc complement)
+      (take-away (low + last * scale) (scale * 128) (scale * 128 - 1) (omega (arith, low-below (v .worth))) (omega (arith, sum-below (v .worth) (v .small))) ∙ ap negsuc complement)
 
   minus-below : 64 ≤ last → (127 - last) * scale + (scale - 1 - low) < 64 * scale
   minus-below h =
       let q : 127 - last < 64 = omega arith in
-      let r : scale - 1 - low < scale = omega (arith, low-below v) in
+      let r : scale - 1 - low < scale = omega (arith, low-below (v .worth)) in
       omega (arith, digits-lt q r)
 
 -- ---- what the code answers
@@ -55,7 +56,7 @@ module _ {s : List ℕ} {at low scale last next : ℕ} (v : Seen s at low scale 
 no-sleb : (at : ℕ) (x : Run) → IsCut x → Fault ≡ slebOf at x
 no-sleb at (run bs) h =
     sym (rw (ne-eqb (tenth bs) 0x00 (λ e. omega arith), ne-eqb (tenth bs) 0x7f (λ e. omega arith)))
-no-sleb at endless h = refl
+no-sleb at unended h = refl
 
 module _ (s : List ℕ) (at : ℕ) {r : Gathered} (g : r ≡ gatheredAt s at) where
   pub cut-sleb : r ≡ Cut → Fault ≡ slebAt s at
@@ -81,16 +82,16 @@ module _ (s : List ℕ) (at : ℕ) {r : Gathered} (g : r ≡ gatheredAt s at) wh
     few-last = omega (arith, few .seen .small)
 
     pub few-scale : 1 ≤ scale
-    few-scale = omega (arith, low-below (few .seen))
+    few-scale = omega (arith, low-below (few .seen .worth))
 
     pub few-low : low ≤ scale - 1
-    few-low = omega (arith, low-below (few .seen))
+    few-low = omega (arith, low-below (few .seen .worth))
 
     pub plus-below : last < 64 → low + last * scale < 2 ^ 63
-    plus-below h = omega (arith, scale-small few, value-below (few .seen) h)
+    plus-below h = omega (arith, few-scale-small s at g f, sum-below (few .seen .worth) h)
 
     pub minus-small : 64 ≤ last → (127 - last) * scale + (scale - 1 - low) < 2 ^ 63
-    minus-small h = omega (arith, scale-small few, minus-below (few .seen) h)
+    minus-small h = omega (arith, few-scale-small s at g f, minus-below (few .seen) h)
 
     pub minus-sum : 64 ≤ last → Fits w64 ((127 - last) * scale + (scale - 1 - low))
     minus-sum h = record { fits = omega (arith, minus-small h) }
@@ -103,7 +104,7 @@ module _ (s : List ℕ) (at : ℕ) {r : Gathered} (g : r ≡ gatheredAt s at) wh
     ten = seen s at g f
 
     pub ten-low : low < 2 ^ 63
-    ten-low = low-below (ten .seen)
+    ten-low = low-below (ten .seen .worth)
 
     pub ten-most : low ≤ 2 ^ 63 - 1
     ten-most = omega (arith, ten-low)

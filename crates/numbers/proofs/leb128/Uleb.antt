@@ -8,15 +8,16 @@ use mir.Syntax.{w64}
 use mir.Val.{Fits}
 use Rattle.numbers.specs.Leb128.{tenth, bytesAt, ulebOf, ulebAt}
 use Rattle.numbers.specs.Gathered.{gatheredAt}
-use Rattle.numbers.specs.Runs.{Run, run, endless}
+use Rattle.numbers.specs.Runs.{Run, run, unended}
 use Rattle.numbers.specs.declared.leb128.Gathered.{Gathered}
 use Rattle.numbers.specs.declared.leb128.Gathered.the-variants.{Few, Ten, Cut}
 use Rattle.numbers.specs.declared.Number.the-variants.{Value, Fault}
-use Rattle.numbers.proofs.leb128.Views.{SeenFew, SeenTen, IsCut, value-is, next-is, value-below, no-tenth, tenth-is, seen, few-sum, few-product}
+use Rattle.numbers.proofs.leb128.Chunks.{sum-below}
+use Rattle.numbers.proofs.leb128.Views.{SeenFew, SeenTen, IsCut, value-is, next-is, no-tenth, tenth-is, seen, few-sum, few-product}
 
 no-uleb : (at : ℕ) (x : Run) → IsCut x → Fault ≡ ulebOf at x
 no-uleb at (run bs) h = sym (rw (le-ltb (tenth bs) 2 (omega arith)))
-no-uleb at endless h = refl
+no-uleb at unended h = refl
 
 module _ (s : List ℕ) (at : ℕ) {r : Gathered} (g : r ≡ gatheredAt s at) where
   pub cut-uleb : r ≡ Cut → Fault ≡ ulebAt s at
@@ -46,6 +47,6 @@ module _ (s : List ℕ) (at : ℕ) {r : Gathered} (g : r ≡ gatheredAt s at) wh
     ten-large h = sym (ap (ulebOf at) (ten .seen .is) ∙ rw (tenth-is ten, le-ltb last 2 h))
 
     pub ten-fits : last < 2 → Fits w64 (low + last * 2 ^ 63)
-    ten-fits h = record { fits = value-below (ten .seen) h }
+    ten-fits h = record { fits = sum-below (ten .seen .worth) h }
 
 pub ruleset uleb-laws = (cut-uleb, few-uleb, few-sum, few-product, ten-uleb, ten-large, ten-fits)

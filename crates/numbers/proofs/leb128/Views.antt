@@ -14,18 +14,17 @@ use mir.Syntax.{w64}
 use mir.Val.{Fits}
 use Rattle.numbers.specs.Gathered.{gathered, gatheredAt}
 use Rattle.numbers.specs.Leb128.{isLast, bytesAt, tenth, unsigned}
-use Rattle.numbers.specs.Runs.{Run, run, endless}
+use Rattle.numbers.specs.Runs.{Run, run, unended}
 use Rattle.numbers.specs.declared.leb128.Gathered.{Gathered}
 use Rattle.numbers.specs.declared.leb128.Gathered.the-variants.{Few, Ten, Cut}
 use Rattle.numbers.proofs.Runs.{IsRun, is-run, length-snoc}
-use Rattle.numbers.proofs.leb128.Chunks.{unsigned-snoc, unsigned-below, weight-rises}
+use Rattle.numbers.proofs.leb128.Chunks.{Worth, one-more, sum-below, scale-small}
 use Rattle.numbers.proofs.leb128.Gathering.{gathered-few, gathered-ten, gathered-long}
 
 pub record Seen (s : List ℕ) (at low scale last next : ℕ) : Type 0 where
   pub passed : List ℕ
   pub is : bytesAt s at ≡ run (passed ++ (last ∷ []))
-  pub worth : low ≡ unsigned passed
-  pub power : scale ≡ 128 ^ length passed
+  pub worth : Worth passed low scale
   pub small : last < 128
   pub place : next ≡ at + (length passed + 1)
   pub inside : next ≤ length s
@@ -41,7 +40,7 @@ pub record SeenTen (s : List ℕ) (at low last next : ℕ) : Type 0 where
 -- bytes that never end, or whose tenth does not end them
 abbrev pub IsCut : Run → Type 0
 IsCut (run bs) = 128 ≤ tenth bs
-IsCut endless = Unit {0}
+IsCut unended = Unit {0}
 
 -- what each of the three answers says of the bytes
 abbrev pub View : List ℕ → ℕ → Gathered → Type 0
@@ -55,8 +54,7 @@ module _ (s : List ℕ) (at : ℕ) {bs : List ℕ} (e : bytesAt s at ≡ run bs)
       record {
         passed = i .passed;
         is = e ∙ ap run (i .split);
-        worth = refl;
-        power = p;
+        worth = record { worth = refl; counts = p };
         small = ltb-true (i .last) 128 (i .stops);
         place = refl;
         inside = omega (arith, i .inside, length-drop at s);
@@ -88,7 +86,7 @@ module _ (s : List ℕ) (at : ℕ) {bs : List ℕ} (e : bytesAt s at ≡ run bs)
 
 view-of : (s : List ℕ) (at : ℕ) (x : Run) → bytesAt s at ≡ x → View s at (gathered at x)
 view-of s at (run bs) e = view-run s at e (is-run isLast (drop at s) e)
-view-of s at endless e = subst IsCut (sym e) tt
+view-of s at unended e = subst IsCut (sym e) tt
 
 pub view : (s : List ℕ) (at : ℕ) → View s at (gatheredAt s at)
 unfolding gatheredAt
@@ -97,38 +95,26 @@ view s at = view-of s at (bytesAt s at) refl
 -- ---- what follows of the bytes
 
 module _ {s : List ℕ} {at low scale last next : ℕ} (v : Seen s at low scale last next) where
-  pub low-below : low < scale
-  low-below = rw (v .worth, v .power) (unsigned-below (v .passed))
-
   pub value-is : unsigned (v .passed ++ (last ∷ [])) ≡ low + last * scale
   value-is =
       let e : last % 128 ≡ last = omega (arith, v .small) in
-      omega (arith, v .worth, unsigned-snoc (v .passed) last, ap (λ (m : ℕ). 128 ^ length (v .passed) * m) e, ap (λ (m : ℕ). m * last) (v .power))
+      sym (one-more (v .worth) last .worth) ∙ ap (λ (m : ℕ). low + m * scale) e
 
   pub next-is : at + length (v .passed ++ (last ∷ [])) ≡ next
   next-is = omega (arith, v .place, length-snoc (v .passed) last)
 
   pub weight-is : 128 ^ length (v .passed ++ (last ∷ [])) ≡ scale * 128
-  weight-is =
-      ap (λ (m : ℕ). 128 ^ m) (length-snoc (v .passed) last ∙ add-one (length (v .passed))) ∙
-      pow-suc 128 (length (v .passed)) ∙
-      ap (λ (m : ℕ). m * 128) (sym (v .power))
+  weight-is = sym (one-more (v .worth) last .counts)
 
   pub last-is : getD (v .passed ++ (last ∷ [])) (length (v .passed ++ (last ∷ [])) - 1) 0 ≡ last
   last-is =
       let e : length (v .passed ++ (last ∷ [])) - 1 ≡ length (v .passed) = omega (arith, length-snoc (v .passed) last) in
       rw (e, getD-append-seam (v .passed) last [] 0)
 
-  pub value-below : {b : ℕ} → last < b → low + last * scale < b * scale
-  value-below h = omega (arith, digits-lt h low-below)
-
 module _ {s : List ℕ} {at low scale last next : ℕ} (v : SeenFew s at low scale last next) where
   pub no-tenth : tenth (v .seen .passed ++ (last ∷ [])) ≡ 0
   no-tenth =
       List·getD-eq-default (v .seen .passed ++ (last ∷ [])) 0 (omega (arith, v .few, length-snoc (v .seen .passed) last))
-
-  pub scale-small : scale ≤ 2 ^ 56
-  scale-small = rw (v .seen .power) (weight-rises (length (v .seen .passed)) 8 (v .few))
 
 pub tenth-is : {s : List ℕ} {at low last next : ℕ} (v : SeenTen s at low last next) → tenth (v .seen .passed ++ (last ∷ [])) ≡ last
 tenth-is {last = last} v = getD-at (v .seen .passed) last [] 0 9 (v .ten)
@@ -140,10 +126,14 @@ module _ (s : List ℕ) (at : ℕ) {r : Gathered} (g : r ≡ gatheredAt s at) wh
   seen f = subst (View s at) (sym g ∙ f) (view s at)
 
   module _ {low scale last next : ℕ} (f : r ≡ Few low scale last next) where
+    few : SeenFew s at low scale last next
+    few = seen f
+
+    pub few-scale-small : scale ≤ 2 ^ 56
+    few-scale-small = scale-small (few .seen .worth) (few .few)
+
     pub few-sum : Fits w64 (low + last * scale)
-    few-sum =
-        let v : SeenFew s at low scale last next = seen f in
-        record { fits = omega (arith, scale-small v, value-below (v .seen) (v .seen .small)) }
+    few-sum = record { fits = omega (arith, few-scale-small, sum-below (few .seen .worth) (few .seen .small)) }
 
     pub few-product : Fits w64 (last * scale)
     few-product = record { fits = omega (arith, few-sum .fits) }

@@ -9,9 +9,6 @@ use Rattle.numbers.specs.Strings.{isNul, stringOf, stringAt}
 use Rattle.numbers.specs.declared.strings.Text.the-variants.{Found, Fault}
 use Rattle.numbers.proofs.Runs.{Passed, length-snoc, none-passed, one-passed, runs-out, run-ends}
 
-pub none-read : (s : List ℕ) (from : ℕ) → Passed isNul s from from
-none-read = none-passed isNul
-
 module _ {s : List ℕ} {from at : ℕ} (i : Passed isNul s from at) where
   pub string-ends : at < length s → getD s at 0 ≡ 0 → Found from (at - from) (at + 1) ≡ stringAt s from
   unfolding stringAt
@@ -28,7 +25,4 @@ module _ {s : List ℕ} {from at : ℕ} (i : Passed isNul s from at) where
   unfolding stringAt
   no-string h = sym (ap (stringOf from) (runs-out i h))
 
-  pub place-after : from ≤ at
-  place-after = omega (arith, i .place)
-
-pub ruleset string-laws = (none-read, string-ends, string-goes-on, no-string, place-after)
+pub ruleset string-laws = (none-passed, string-ends, string-goes-on, no-string)

@@ -1,6 +1,6 @@
 -- `numbers::parts::part` meets its contract. Assumes nothing.
 use borrow.Author.Needs.{needs}
-use Rattle.numbers.proofs.parts.Lying.{part-laws}
+use Rattle.numbers.proofs.parts.Inside.{part-laws}
 use Rattle.numbers.proofs.parts.part.Statement.{statement}
 use Rattle.numbers.proofs.parts.part.Tie as tie
 
