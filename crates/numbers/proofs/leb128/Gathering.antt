@@ -3,15 +3,11 @@ use Prim.Native.Nat.{ℕ, _+_, _-_, _*_, _%_, _^_, _≤_, _<_}
 use mathlib.Core.Path.{_≡_, refl, ap, sym, _∙_}
 use mathlib.Core.List.{List, [], _∷_, _++_}
 use native.Mathlib.Omega.{arith}
-use native.Mathlib.Nat.{pow-suc}
-use native.Mathlib.Numerals.{add-one}
 use borrow.Author.Tests.{lt-ltb, le-ltb}
-use lib.Arith.{digits-lt}
 use lib.ListN.{length, getD, drop, length-append}
 use lib.Seq.{append-snoc, take-append-seam, take-at, getD-append-seam, getD-at}
 use mir.Syntax.{w64}
 use mir.Val.{Fits}
-use Rattle.numbers.specs.Digits.{fromDigits}
 use Rattle.numbers.specs.Gathered.{gathered, gatheredAt}
 use Rattle.numbers.specs.Leb128.{isLast, tenth, unsigned}
 use Rattle.numbers.specs.Runs.{Run, run, unended, runTo}
