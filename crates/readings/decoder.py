@@ -1,8 +1,8 @@
 #!/usr/bin/env python3
-"""Prints what the samples of src/main.rt are, for the file `stdout`: an independent reading of the same bytes.
+"""Prints what the samples of src/main.rt are, for the file `stdout`: a second reading of the same bytes.
 
-LEB128 is decoded as in DWARF 5, appendix C, on Python's unbounded integers, with the rules for a tenth byte; strings, fields and
-parts are Python's own `find`, `int.from_bytes` and slices. Nothing here is taken from the Rattle code but the samples themselves.
+LEB128 is decoded by shifts and masks on Python's unbounded integers, with the rules for a tenth byte; strings, fields and parts
+are Python's own `find`, `int.from_bytes` and slices. Nothing here is taken from the Rattle code but the samples themselves.
 """
 import pathlib
 import re

@@ -44,6 +44,6 @@ numberOf FaultyNode = 15  -- trie node or edge faulty
 numberOf ChildIsOpen = 16  -- child offset is that of an open node
 numberOf TooManyOpenNodes = 17  -- a 257th node would be opened
 numberOf NameTooLong = 18  -- name longer than the lent name buffer
-numberOf StateOutOfRange = 19  -- state out of range
+numberOf StateOutOfRange = 19  -- state out of range: a read place beyond the lent slice, a pointer size not 4 or 8, a page walk's format not 2, 3 or 6, more than 256 open nodes, a kept name longer than the lent buffer, or a page offset above 65,535 × 65,535
 numberOf PlaceOutside = 20  -- preflight: a place is outside its segment
 numberOf UnfitSizes = 21  -- preflight: more than 16 sizes, or one above 2^62
