@@ -25,7 +25,7 @@ use Rattle.numbers.proofs.leb128.Views.{Seen, SeenFew, SeenTen, IsCut, 
 sub-below : (a b : ℕ) → a < b → subℕ a b ≡ negsuc (b - suc a)
 sub-below a b h = simp (lt-ltb a b h)
 
-take-away : (a m n : ℕ) → m ≡ suc n → a ≤ n → pos a -ℤ pos m ≡ negsuc (n - a)
+pub take-away : (a m n : ℕ) → m ≡ suc n → a ≤ n → pos a -ℤ pos m ≡ negsuc (n - a)
 take-away a m n e h =
     ap (λ (k : ℕ). pos a -ℤ pos k) e ∙ sub-below a (suc n) (omega arith) ∙ ap negsuc (omega arith)
 

@@ -1,0 +1,40 @@
+-- The places of a repeat, one after the other; and offsets stay below 2^64. Assumes nothing.
+use Prim.Native.Nat.{ℕ, zero, suc, _+_, _*_, _%_, _^_, _<_}
+use mathlib.Core.Path.{_≡_, refl}
+use native.Mathlib.Omega.{arith}
+use Rattle.cursor.specs.Motion.{placeAt, turnOf}
+use Rattle.cursor.specs.declared.Motion.{Motion}
+use Rattle.cursor.specs.declared.Motion.the-variants.{Stays, Adds, Seeks, Restarts, Repeats, Ends, Refuses}
+use Rattle.cursor.specs.declared.Turn.{Turn}
+use Rattle.cursor.specs.declared.Turn.the-variants.{On, Anew, Yields, Done, Stop}
+
+module _ (offset advance : ℕ) where
+  pub place-first : offset < 2 ^ 64 → placeAt offset advance 0 ≡ offset
+  unfolding placeAt
+  place-first h = omega arith
+
+  pub place-next : (i : ℕ) → placeAt offset advance (suc i) ≡ (placeAt offset advance i + advance) % 2 ^ 64
+  unfolding placeAt
+  place-next i = omega arith
+
+  pub place-below : (i : ℕ) → placeAt offset advance i < 2 ^ 64
+  unfolding placeAt
+  place-below i = omega arith
+
+abbrev pub Bounded : Turn → Type 0
+Bounded (On offset) = offset < 2 ^ 64
+Bounded Anew = Unit {0}
+Bounded (Yields left advance) = Unit {0}
+Bounded Done = Unit {0}
+Bounded (Stop e) = Unit {0}
+
+pub bounded : (size offset : ℕ) → offset < 2 ^ 64 → (m : Motion) → Bounded (turnOf size offset m)
+unfolding turnOf
+bounded size offset h Stays = h
+bounded size offset h (Adds n) = omega arith
+bounded size offset h (Seeks to) = omega arith
+bounded size offset h Restarts = tt
+bounded size offset h (Repeats zero addition) = h
+bounded size offset h (Repeats (suc left) addition) = tt
+bounded size offset h Ends = tt
+bounded size offset h (Refuses e) = tt

@@ -1,0 +1,6 @@
+pub mod Streams
+pub mod Runs
+pub mod Joined
+pub mod Kept
+pub mod Resumed
+pub mod Loops

@@ -1,0 +1,5 @@
+pub mod Machine
+pub mod Stream
+pub mod Listing
+pub mod Call
+pub mod Runs

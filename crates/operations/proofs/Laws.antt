@@ -1,0 +1,122 @@
+-- The laws that callers cite: an operation ends behind its place and within the bytes, and what a parser's answer says determines it. They
+-- are about the definitions alone. Assumes nothing.
+use Prim.Native.Nat.{ℕ, _+_, _/_, _%_, _*_, _≤_, _<_}
+use mathlib.Core.Path.{_≡_, refl, ap, sym, _∙_, subst}
+use mathlib.Core.Bool.{Bool, true, false, cond}
+use mathlib.Core.List.{List, [], _∷_}
+use native.Mathlib.Omega.{arith}
+use borrow.Author.Tests.{ltb-true}
+use lib.Dec.{ltb, eqb}
+use lib.IntN.{ℤ}
+use lib.ListN.{length, getD}
+use Rattle.numbers.proofs.Laws.{Within, uleb-read, sleb-read, string-read}
+use Rattle.numbers.specs.Leb128.{ulebAt, slebAt}
+use Rattle.numbers.specs.Strings.{stringAt}
+use Rattle.numbers.specs.declared.Number.{Number}
+use Rattle.numbers.specs.declared.Number.the-variants as number
+use Rattle.numbers.specs.declared.leb128.Signed.{Signed}
+use Rattle.numbers.specs.declared.leb128.Signed.the-variants as signed
+use Rattle.numbers.specs.declared.strings.Text.{Text}
+use Rattle.numbers.specs.declared.strings.Text.the-variants as text
+use Rattle.operations.specs.Table.{Parsed, operation, faulty, nothing, Operands, alone, uleb, ulebs, sleb, string, Row, _⇒_, thenNumber, thenSigned, thenText, operandsAt, rowAt, operationAt}
+use Rattle.operations.specs.Told.{rebaseTold, bindTold}
+use Rattle.operations.specs.declared.rebase.RebaseOperation.{RebaseOperation}
+use Rattle.operations.specs.declared.rebase.RebaseParse.{RebaseParse}
+use Rattle.operations.specs.declared.rebase.RebaseParse.the-variants as rebase
+use Rattle.operations.specs.declared.bind.BindOperation.{BindOperation}
+use Rattle.operations.specs.declared.bind.BindParse.{BindParse}
+use Rattle.operations.specs.declared.bind.BindParse.the-variants as bind
+
+-- ---- an operation ends behind its place, and within the bytes
+
+abbrev IfOperation : {Op : Type 0} → List ℕ → ℕ → Parsed Op → Type 0
+IfOperation s at (operation op next) = Within s at next
+IfOperation s at (faulty e) = Unit {0}
+IfOperation s at nothing = Unit {0}
+
+further : {s : List ℕ} {at from next : ℕ} → at < from → Within s from next → Within s at next
+further h w = record { beyond = omega (arith, w .beyond); inside = w .inside }
+
+module _ {Op : Type 0} (s : List ℕ) (at : ℕ) where
+  -- what is made of an operand that stands at a place from on
+  module _ (from : ℕ) where
+    if-number : (x : Number) → ulebAt s from ≡ x → (go : ℕ → ℕ → Parsed Op) →
+        ((v next : ℕ) → Within s from next → IfOperation s at (go v next)) → IfOperation s at (thenNumber x go)
+    unfolding thenNumber
+    if-number (number.Value v next) e go k = k v next (uleb-read s from (sym e) refl .within)
+    if-number number.Fault e go k = tt
+
+    if-signed : (x : Signed) → slebAt s from ≡ x → (go : ℤ → ℕ → Parsed Op) →
+        ((v : ℤ) (next : ℕ) → Within s from next → IfOperation s at (go v next)) → IfOperation s at (thenSigned x go)
+    unfolding thenSigned
+    if-signed (signed.Value v next) e go k = k v next (sleb-read s from (sym e) refl .within)
+    if-signed signed.Fault e go k = tt
+
+    if-text : (x : Text) → stringAt s from ≡ x → (go : ℕ → ℕ → ℕ → Parsed Op) →
+        ((start len next : ℕ) → Within s from next → IfOperation s at (go start len next)) → IfOperation s at (thenText x go)
+    unfolding thenText
+    if-text (text.Found start len next) e go k = k start len next (string-read s from (sym e) refl .within)
+    if-text text.Fault e go k = tt
+
+  module _ (h : at < length s) where
+    if-operands : (o : Operands Op) → IfOperation s at (operandsAt s (at + 1) o)
+    if-operands (alone op) = record { beyond = omega arith; inside = omega arith }
+    if-operands (uleb make) = if-number (at + 1) (ulebAt s (at + 1)) refl _ (λ v next w. further (omega arith) w)
+    if-operands (ulebs make) =
+        if-number (at + 1) (ulebAt s (at + 1)) refl _
+        (λ v next w. if-number next (ulebAt s next) refl _ (λ u after x. further (omega (arith, w .beyond)) x))
+    if-operands (sleb make) = if-signed (at + 1) (slebAt s (at + 1)) refl _ (λ v next w. further (omega arith) w)
+    if-operands (string make) = if-text (at + 1) (stringAt s (at + 1)) refl _ (λ start len next w. further (omega arith) w)
+
+    either : (t : Bool) (x y : Parsed Op) → IfOperation s at x → IfOperation s at y → IfOperation s at (cond t x y)
+    either true x y p q = p
+    either false x y p q = q
+
+    if-row : (opcode : ℕ) (rows : List (Row Op)) → IfOperation s at (rowAt s (at + 1) opcode rows)
+    unfolding rowAt
+    if-row opcode [] = tt
+    if-row opcode (k ⇒ operands ∷ rows) =
+        either (eqb opcode k) (operandsAt s (at + 1) operands) (rowAt s (at + 1) opcode rows)
+        (if-operands operands) (if-row opcode rows)
+
+module _ {Op : Type 0} (table : ℕ → List (Row Op)) (s : List ℕ) (at : ℕ) where
+  if-operation : (t : Bool) → ltb at (length s) ≡ t →
+      IfOperation s at (cond t (rowAt s (at + 1) (getD s at 0 / 16 * 16) (table (getD s at 0 % 16))) nothing)
+  if-operation true e = if-row s at (ltb-true at (length s) e) (getD s at 0 / 16 * 16) (table (getD s at 0 % 16))
+  if-operation false e = tt
+
+  pub operation-read : {op : Op} {next : ℕ} → operationAt table s at ≡ operation op next → Within s at next
+  unfolding operationAt
+  operation-read e = subst (IfOperation s at) e (if-operation (ltb at (length s)) refl)
+
+-- ---- what is told of a parse determines it
+
+abbrev rebaseUntold : Parsed RebaseOperation → RebaseParse
+rebaseUntold (operation op next) = rebase.Operation op next
+rebaseUntold (faulty e) = rebase.Refused e
+rebaseUntold nothing = rebase.End
+
+abbrev bindUntold : Parsed BindOperation → BindParse
+bindUntold (operation op next) = bind.Operation op next
+bindUntold (faulty e) = bind.Refused e
+bindUntold nothing = bind.End
+
+rebase-back : (r : RebaseParse) → rebaseUntold (rebaseTold r) ≡ r
+rebase-back (rebase.Operation op next) = refl
+rebase-back (rebase.Refused e) = refl
+rebase-back rebase.End = refl
+
+bind-back : (r : BindParse) → bindUntold (bindTold r) ≡ r
+bind-back (bind.Operation op next) = refl
+bind-back (bind.Refused e) = refl
+bind-back bind.End = refl
+
+-- one value of A for each of B, if each of A comes back
+pub one-each : {A B : Type 0} (to : A → B) (back : B → A) → ((a : A) → back (to a) ≡ a) → (a c : A) → to a ≡ to c → a ≡ c
+one-each to back same a c e = sym (same a) ∙ ap back e ∙ same c
+
+pub rebase-one : (r q : RebaseParse) → rebaseTold r ≡ rebaseTold q → r ≡ q
+rebase-one = one-each rebaseTold rebaseUntold rebase-back
+
+pub bind-one : (r q : BindParse) → bindTold r ≡ bindTold q → r ≡ q
+bind-one = one-each bindTold bindUntold bind-back

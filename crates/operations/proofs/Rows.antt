@@ -1,0 +1,94 @@
+-- What the definitions say of a byte, by the tests that a parser makes: for `search`. Assumes nothing.
+use Prim.Native.Nat.{ℕ, zero, suc, _+_, _*_, _/_, _%_, _≤_, _<_, zero-le}
+use mathlib.Core.Path.{_≡_, refl, ap, sym, _∙_}
+use mathlib.Core.Bool.{Bool, true, false, cond, _&&_}
+use mathlib.Core.List.{List, [], _∷_}
+use native.Mathlib.Omega.{arith}
+use borrow.Author.Tests.{lt-ltb, le-ltb, ltb-true, ne-eqb}
+use lib.Dec.{ltb, eqb}
+use lib.IntN.{ℤ}
+use lib.ListN.{length, getD}
+use Rattle.numbers.specs.declared.Number.{Number}
+use Rattle.numbers.specs.declared.Number.the-variants as number
+use Rattle.numbers.specs.declared.leb128.Signed.{Signed}
+use Rattle.numbers.specs.declared.leb128.Signed.the-variants as signed
+use Rattle.numbers.specs.declared.strings.Text.{Text}
+use Rattle.numbers.specs.declared.strings.Text.the-variants as text
+use Rattle.refusal.specs.declared.Refusal.the-variants.{UnknownOpcode, FaultyOperand}
+use Rattle.operations.specs.Table.{Parsed, operation, faulty, nothing, Row, _⇒_, thenNumber, thenSigned, thenText, operandsAt, rowAt, operationAt}
+
+-- ---- operands
+
+module _ {Op : Type 0} (x : Number) (go : ℕ → ℕ → Parsed Op) {r : Number} (e : r ≡ x) where
+  pub number-read : {v next : ℕ} {y : Parsed Op} → r ≡ number.Value v next → y ≡ go v next → y ≡ thenNumber x go
+  unfolding thenNumber
+  number-read f q = rw (sym e ∙ f) q
+
+  pub number-faulty : r ≡ number.Fault → faulty FaultyOperand ≡ thenNumber x go
+  unfolding thenNumber
+  number-faulty f = rw (sym e ∙ f)
+
+module _ {Op : Type 0} (x : Signed) (go : ℤ → ℕ → Parsed Op) {r : Signed} (e : r ≡ x) where
+  pub signed-read : {v : ℤ} {next : ℕ} {y : Parsed Op} → r ≡ signed.Value v next → y ≡ go v next → y ≡ thenSigned x go
+  unfolding thenSigned
+  signed-read f q = rw (sym e ∙ f) q
+
+  pub signed-faulty : r ≡ signed.Fault → faulty FaultyOperand ≡ thenSigned x go
+  unfolding thenSigned
+  signed-faulty f = rw (sym e ∙ f)
+
+module _ {Op : Type 0} (x : Text) (go : ℕ → ℕ → ℕ → Parsed Op) {r : Text} (e : r ≡ x) where
+  pub text-read : {start len next : ℕ} {y : Parsed Op} → r ≡ text.Found start len next → y ≡ go start len next → y ≡ thenText x go
+  unfolding thenText
+  text-read f q = rw (sym e ∙ f) q
+
+  pub text-faulty : r ≡ text.Fault → faulty FaultyOperand ≡ thenText x go
+  unfolding thenText
+  text-faulty f = rw (sym e ∙ f)
+
+-- ---- opcodes
+
+-- every opcode of a table is below a bound
+abbrev pub allBelow : {Op : Type 0} → ℕ → List (Row Op) → Bool
+allBelow bound [] = true
+allBelow bound (k ⇒ operands ∷ rows) = ltb k bound && allBelow bound rows
+
+-- a number is none of those below k: as a `match` with arms for them has it in its last arm
+abbrev pub NoneOf : ℕ → ℕ → Type 0
+NoneOf zero n = Unit {0}
+NoneOf (suc k) n = NoneOf k n × (n ≡ k → ⊥)
+
+at-least : (k n : ℕ) → NoneOf k n → k ≤ n
+at-least zero n h = zero-le
+at-least (suc k) n h = let l = at-least k n (h .0) in let d = h .1 in omega arith
+
+both : (a b : Bool) → a && b ≡ true → (a ≡ true) × (b ≡ true)
+both true b e = (refl, e)
+both false b e = (e, cc)
+
+module _ {Op : Type 0} (s : List ℕ) (at : ℕ) where
+  no-row : (bound opcode : ℕ) → bound ≤ opcode → (rows : List (Row Op)) → allBelow bound rows ≡ true →
+      faulty UnknownOpcode ≡ rowAt s at opcode rows
+  unfolding rowAt
+  no-row bound opcode h [] e = refl
+  no-row bound opcode h (k ⇒ operands ∷ rows) e =
+      let l = both (ltb k bound) (allBelow bound rows) e in
+      rw (ne-eqb opcode k (λ q. let m = ltb-true k bound (l .0) in omega arith)) (no-row bound opcode h rows (l .1))
+
+module _ {Op : Type 0} (table : ℕ → List (Row Op)) (s : List ℕ) (at : ℕ) where
+  pub no-byte : length s ≤ at → nothing ≡ operationAt table s at
+  unfolding operationAt
+  no-byte h = rw (le-ltb at (length s) h)
+
+  module _ (h : at < length s) where
+    pub has-row : {k : ℕ} {y : Parsed Op} → getD s at 0 / 16 ≡ k → y ≡ rowAt s (at + 1) (k * 16) (table (getD s at 0 % 16)) → y ≡ operationAt table s at
+    unfolding operationAt
+    has-row e q = rw (lt-ltb at (length s) h, e) q
+
+    pub has-no-row : (k : ℕ) → NoneOf k (getD s at 0 / 16) → allBelow (k * 16) (table (getD s at 0 % 16)) ≡ true → faulty UnknownOpcode ≡ operationAt table s at
+    unfolding operationAt
+    has-no-row k r e =
+        rw (lt-ltb at (length s) h)
+        (no-row s (at + 1) (k * 16) (getD s at 0 / 16 * 16) (let l = at-least k (getD s at 0 / 16) r in omega arith) (table (getD s at 0 % 16)) e)
+
+pub ruleset row-laws = (number-read, number-faulty, signed-read, signed-faulty, text-read, text-faulty)

@@ -1,0 +1,15 @@
+-- `operations::bind::symbol` meets its contract. Assumes nothing.
+use borrow.Author.Needs.{needs}
+use Rattle.operations.proofs.Rows.{row-laws}
+use Rattle.operations.proofs.bind.symbol.Statement.{statement}
+use Rattle.operations.proofs.bind.symbol.Tie as tie
+
+pub symbol-spec : {M : Type 1} → statement M
+symbol-spec =
+    tie.close
+    (tie.spec
+    (λ c κs. search needs)
+    (λ c. search needs)
+    (λ c. search needs)
+    (λ c. search row-laws)
+    (λ c. search row-laws))

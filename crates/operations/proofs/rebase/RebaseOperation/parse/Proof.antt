@@ -1,0 +1,54 @@
+-- `operations::rebase::RebaseOperation::parse` meets its contract. Assumes nothing.
+use borrow.Author.Needs.{needs}
+use mathlib.Core.Path.{refl}
+use Rattle.operations.proofs.Rows.{no-byte, has-row, has-no-row, row-laws}
+use Rattle.operations.specs.Loader.{rebaseTable}
+use Rattle.operations.specs.Table.{rowAt}
+use Rattle.operations.proofs.rebase.RebaseOperation.parse.Statement.{statement}
+use Rattle.operations.proofs.rebase.RebaseOperation.parse.Tie as tie
+
+pub parse-spec : {M : Type 1} → statement M
+unfolding rowAt
+parse-spec =
+    tie.close
+    (tie.spec
+    (λ c. search (no-byte rebaseTable, has-row rebaseTable, row-laws, needs))
+    (λ c. search needs)
+    (λ c. search needs)
+    (λ c. search needs)
+    (λ c. search needs)
+    (λ c. search needs)
+    (λ c κs. search needs)
+    (λ c. search needs)
+    (λ c. search needs)
+    (λ c. search needs)
+    (λ c κs. search needs)
+    (λ c. search needs)
+    (λ c. search needs)
+    (λ c. search needs)
+    (λ c. search needs)
+    (λ c. search needs)
+    (λ c. search needs)
+    (λ c κs. search needs)
+    (λ c. search needs)
+    (λ c. search needs)
+    (λ c. search needs)
+    (λ c κs. search needs)
+    (λ c. search needs)
+    (λ c. search needs)
+    (λ c. search needs)
+    (λ c κs. search needs)
+    (λ c. search (no-byte rebaseTable, has-row rebaseTable, row-laws, needs))
+    (λ c. search (no-byte rebaseTable, has-row rebaseTable, row-laws, needs))
+    (λ c. search (no-byte rebaseTable, has-row rebaseTable, row-laws, needs))
+    (λ c. search (no-byte rebaseTable, has-row rebaseTable, row-laws, needs))
+    (λ c. search (no-byte rebaseTable, has-row rebaseTable, row-laws, needs))
+    (λ c. search (no-byte rebaseTable, has-row rebaseTable, row-laws, needs))
+    (λ c. search (no-byte rebaseTable, has-row rebaseTable, row-laws, needs))
+    (λ c. search (no-byte rebaseTable, has-row rebaseTable, row-laws, needs))
+    (λ c. search (no-byte rebaseTable, has-row rebaseTable, row-laws, needs))
+    (λ c. search (no-byte rebaseTable, has-row rebaseTable, row-laws, needs))
+    (λ c. search (no-byte rebaseTable, has-row rebaseTable, row-laws, needs))
+    (λ c. search (no-byte rebaseTable, has-row rebaseTable, row-laws, needs))
+    (λ c. search (no-byte rebaseTable, has-row rebaseTable, row-laws, needs))
+    (λ c. has-no-row rebaseTable _ _ (c .before .before .before .if1 .left) 9 (c .match .rest) refl))

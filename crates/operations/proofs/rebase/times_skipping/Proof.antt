@@ -1,0 +1,19 @@
+-- `operations::rebase::times_skipping` meets its contract. Assumes nothing.
+use borrow.Author.Needs.{needs}
+use Rattle.operations.proofs.Rows.{row-laws}
+use Rattle.operations.proofs.rebase.times_skipping.Statement.{statement}
+use Rattle.operations.proofs.rebase.times_skipping.Tie as tie
+
+pub times-skipping-spec : {M : Type 1} → statement M
+times-skipping-spec =
+    tie.close
+    (tie.spec
+    (λ c κs. search needs)
+    (λ c. search needs)
+    (λ c. search needs)
+    (λ c. search row-laws)
+    (λ c κs. search needs)
+    (λ c. search needs)
+    (λ c. search needs)
+    (λ c. search row-laws)
+    (λ c. search row-laws))

@@ -1,0 +1,71 @@
+-- The operation at a place of a stream, by a table of opcodes: the high four bits of a byte choose the row, the low four are the immediate,
+-- and the row has what operands follow the byte and what operation they make.
+use Prim.Native.Nat.{ℕ, _+_, _*_, _/_, _%_}
+use mathlib.Core.Bool.{cond}
+use mathlib.Core.List.{List, [], _∷_}
+use lib.Dec.{ltb, eqb}
+use lib.IntN.{ℤ}
+use lib.ListN.{length, getD}
+use Rattle.numbers.specs.Leb128.{ulebAt, slebAt}
+use Rattle.numbers.specs.Strings.{stringAt}
+use Rattle.numbers.specs.declared.Number.{Number}
+use Rattle.numbers.specs.declared.Number.the-variants as number
+use Rattle.numbers.specs.declared.leb128.Signed.{Signed}
+use Rattle.numbers.specs.declared.leb128.Signed.the-variants as signed
+use Rattle.numbers.specs.declared.strings.Text.{Text}
+use Rattle.numbers.specs.declared.strings.Text.the-variants as text
+use Rattle.refusal.specs.declared.Refusal.{Refusal}
+use Rattle.refusal.specs.declared.Refusal.the-variants.{UnknownOpcode, FaultyOperand}
+
+-- what stands at a place
+pub data Parsed (Op : Type 0) : Type 0 where
+  operation : Op → (next : ℕ) → Parsed Op  -- an operation, and the place behind it
+  faulty : Refusal → Parsed Op
+  nothing : Parsed Op  -- no bytes are left
+
+-- the operands that follow an opcode's byte, and the operation that they make
+pub data Operands (Op : Type 0) : Type 0 where
+  alone : Op → Operands Op
+  uleb : (ℕ → Op) → Operands Op
+  ulebs : (ℕ → ℕ → Op) → Operands Op  -- two
+  sleb : (ℤ → Op) → Operands Op
+  string : ((place length : ℕ) → Op) → Operands Op
+
+pub data Row (Op : Type 0) : Type 0 where
+  _⇒_ : (opcode : ℕ) → Operands Op → Row Op
+
+infix 70 _⇒_
+module _ {Op : Type 0} where
+  -- ---- operands: what goes on with what was read and the place behind it; a faulty one is refused
+
+  unfoldable pub thenNumber : Number → (ℕ → (next : ℕ) → Parsed Op) → Parsed Op
+  thenNumber (number.Value v next) go = go v next
+  thenNumber number.Fault go = faulty FaultyOperand
+
+  unfoldable pub thenSigned : Signed → (ℤ → (next : ℕ) → Parsed Op) → Parsed Op
+  thenSigned (signed.Value v next) go = go v next
+  thenSigned signed.Fault go = faulty FaultyOperand
+
+  unfoldable pub thenText : Text → ((place length next : ℕ) → Parsed Op) → Parsed Op
+  thenText (text.Found start len next) go = go start len next
+  thenText text.Fault go = faulty FaultyOperand
+
+  abbrev pub operandsAt : List ℕ → ℕ → Operands Op → Parsed Op
+  operandsAt s at (alone op) = operation op at
+  operandsAt s at (uleb make) = thenNumber (ulebAt s at) (λ v next. operation (make v) next)
+  operandsAt s at (ulebs make) =
+      thenNumber (ulebAt s at) (λ v next. thenNumber (ulebAt s next) (λ u after. operation (make v u) after))
+  operandsAt s at (sleb make) = thenSigned (slebAt s at) (λ v next. operation (make v) next)
+  operandsAt s at (string make) = thenText (stringAt s at) (λ start len next. operation (make start len) next)
+
+  -- ---- opcodes: one that the table has not is refused
+
+  unfoldable pub rowAt : List ℕ → ℕ → (opcode : ℕ) → List (Row Op) → Parsed Op
+  rowAt s at opcode [] = faulty UnknownOpcode
+  rowAt s at opcode (k ⇒ operands ∷ rows) = cond (eqb opcode k) (operandsAt s at operands) (rowAt s at opcode rows)
+
+  unfoldable pub operationAt : ((imm : ℕ) → List (Row Op)) → List ℕ → ℕ → Parsed Op
+  operationAt table s at =
+      cond (ltb at (length s))
+      (rowAt s (at + 1) (getD s at 0 / 16 * 16) (table (getD s at 0 % 16)))
+      nothing

@@ -1,0 +1,164 @@
+// The operations of a bind stream.
+ghost use mathlib.Core.Path.{_≡_};
+ghost use Prim.Native.Nat.{_<_};
+ghost use Rattle.operations.specs.Loader.{bindTable, special};
+ghost use Rattle.operations.specs.Table.{string, ulebs, operandsAt, operationAt};
+ghost use Rattle.operations.specs.Told.{bindTold};
+ghost use Rattle.operations.specs.declared.bind.BindOperation.the-variants.{SetSymbol, DoBindTimesSkipping};
+use crate::bind::BindOperation as Op;
+use crate::bind::BindParse as Parse;
+use numbers::Number;
+use numbers::leb128::Signed;
+use numbers::leb128::read_sleb;
+use numbers::leb128::read_uleb;
+use numbers::strings::Text;
+use numbers::strings::read_string;
+use refusal::Refusal;
+
+// A symbol's name is a place and a length in the stream.
+pub enum BindOperation {
+    Done,
+    SetDylibOrdinal {
+        ordinal: u64,
+    },
+    SetDylibSpecial {
+        ordinal: i32,
+    },
+    SetSymbol {
+        flags: u8,
+        place: usize,
+        length: usize,
+    },
+    SetType {
+        kind: u8,
+    },
+    SetAddend {
+        addend: i64,
+    },
+    SetSegmentAndOffset {
+        index: u8,
+        offset: u64,
+    },
+    AddAddr {
+        offset: u64,
+    },
+    DoBind,
+    DoBindAddAddr {
+        offset: u64,
+    },
+    DoBindAddAddrScaled {
+        count: u8,
+    },
+    DoBindTimesSkipping {
+        count: u64,
+        skip: u64,
+    },
+}
+
+// An operation and the place behind it; the end, where no bytes are left.
+pub enum BindParse {
+    Operation(BindOperation, usize),
+    Refused(Refusal),
+    End,
+}
+
+impl BindOperation {
+    // The operation at a place.
+    pub fn parse(s: &[u8], at: usize) -> BindParse
+        ensures { λ r. ⌜ bindTold r ≡ operationAt bindTable (now (s .entry)) at ⌝ }
+    {
+        if s.len() <= at {
+            return Parse::End;
+        }
+        let opcode = s[at] / 16;
+        let imm = s[at] % 16;
+        match opcode {
+            0 => Parse::Operation(Op::Done, at + 1),
+            1 => {
+                let ordinal = imm as u64;
+                Parse::Operation(Op::SetDylibOrdinal { ordinal }, at + 1)
+            }
+            2 => match read_uleb(s, at + 1) {
+                Number::Value(ordinal, next) => Parse::Operation(
+                    Op::SetDylibOrdinal { ordinal },
+                    next,
+                ),
+                Number::Fault => Parse::Refused(Refusal::FaultyOperand),
+            },
+            3 => {
+                let ordinal = special(imm);
+                Parse::Operation(Op::SetDylibSpecial { ordinal }, at + 1)
+            }
+            4 => symbol(s, at + 1, imm),
+            5 => Parse::Operation(Op::SetType { kind: imm }, at + 1),
+            6 => match read_sleb(s, at + 1) {
+                Signed::Value(addend, next) => Parse::Operation(Op::SetAddend { addend }, next),
+                Signed::Fault => Parse::Refused(Refusal::FaultyOperand),
+            },
+            7 => match read_uleb(s, at + 1) {
+                Number::Value(offset, next) => Parse::Operation(
+                    Op::SetSegmentAndOffset { index: imm, offset },
+                    next,
+                ),
+                Number::Fault => Parse::Refused(Refusal::FaultyOperand),
+            },
+            8 => match read_uleb(s, at + 1) {
+                Number::Value(offset, next) => Parse::Operation(Op::AddAddr { offset }, next),
+                Number::Fault => Parse::Refused(Refusal::FaultyOperand),
+            },
+            9 => Parse::Operation(Op::DoBind, at + 1),
+            10 => match read_uleb(s, at + 1) {
+                Number::Value(offset, next) => Parse::Operation(Op::DoBindAddAddr { offset }, next),
+                Number::Fault => Parse::Refused(Refusal::FaultyOperand),
+            },
+            11 => Parse::Operation(Op::DoBindAddAddrScaled { count: imm }, at + 1),
+            12 => times_skipping(s, at + 1),
+            13..=255 => Parse::Refused(Refusal::UnknownOpcode),
+        }
+    }
+}
+
+// A symbol's flags, and its name, which stands at a place.
+fn symbol(s: &[u8], at: usize, flags: u8) -> BindParse
+    ensures { λ r. ⌜ bindTold r ≡ operandsAt (now (s .entry)) at (string (SetSymbol flags)) ⌝ }
+{
+    match read_string(s, at) {
+        Text::Found {
+            start: place,
+            len: length,
+            next,
+        } => {
+            let op = Op::SetSymbol {
+                flags,
+                place,
+                length,
+            };
+            Parse::Operation(op, next)
+        }
+        Text::Fault => Parse::Refused(Refusal::FaultyOperand),
+    }
+}
+
+// The library that a special immediate stands for.
+fn special(imm: u8) -> i32
+    requires { ⌜ imm < 16 ⌝ }
+    ensures { λ r. ⌜ r ≡ special imm ⌝ }
+{
+    if imm == 0 {
+        return 0;
+    }
+    (imm as i32) - 16
+}
+
+// A count and a skip, which stand at a place.
+fn times_skipping(s: &[u8], at: usize) -> Parse
+    ensures { λ r. ⌜ bindTold r ≡ operandsAt (now (s .entry)) at (ulebs DoBindTimesSkipping) ⌝ }
+{
+    let Number::Value(count, next) = read_uleb(s, at) else {
+        return Parse::Refused(Refusal::FaultyOperand);
+    };
+    let Number::Value(skip, after) = read_uleb(s, next) else {
+        return Parse::Refused(Refusal::FaultyOperand);
+    };
+    Parse::Operation(Op::DoBindTimesSkipping { count, skip }, after)
+}
