@@ -1,6 +1,7 @@
 // Where a walk over an opcode stream stands: in the stream, in a segment and in a repeat. What moves
 // it is the same in every kind of stream, whatever else the operations set.
 ghost use mathlib.Core.Path.{_≡_};
+ghost use Prim.Native.Nat.{_*_};
 ghost use Rattle.cursor.specs.Cursor.{isPointerSize, behindPlace, startOf, standingOf, movedOf};
 ghost use Rattle.cursor.specs.Motion.{turnOf};
 use refusal::Refusal;
@@ -155,6 +156,13 @@ impl Cursor {
         self.offset = std::num::wrapping_add_u64(self.offset, advance);
         self
     }
+}
+
+// So many pointers, in bytes.
+pub fn scaled(count: u8, size: u8) -> u64
+    ensures { λ r. ⌜ r ≡ count * size ⌝ }
+{
+    (count as u64) * (size as u64)
 }
 
 fn is_pointer_size(size: u8) -> bool

@@ -7,6 +7,7 @@ use lib.ListN.{length}
 use Rattle.cursor.specs.Cursor.{startOf, standingOf, movedBy, movedOf}
 use Rattle.cursor.specs.Motion.{turnOf}
 use Rattle.cursor.specs.declared.Cursor.{Cursor}
+use Rattle.cursor.specs.declared.Lack.{Lack}
 use Rattle.cursor.specs.declared.Motion.{Motion}
 use Rattle.cursor.specs.declared.Moved.{Moved}
 use Rattle.cursor.specs.declared.Moved.the-variants as moved
@@ -14,7 +15,7 @@ use Rattle.cursor.specs.declared.Standing.{Standing}
 use Rattle.cursor.specs.declared.Start.{Start}
 use Rattle.cursor.specs.declared.Turn.{Turn}
 use Rattle.cursor.specs.declared.Turn.the-variants.{On, Anew, Yields, Done, Stop}
-use Rattle.listing.specs.Call.{State, state, Begin, beginFrom, begin, Answer, answered, read, called, call}
+use Rattle.listing.specs.Call.{State, state, Begin, beginFrom, begin, Answer, due, answered, read, called, call}
 use Rattle.listing.specs.Machine.{Effect, _and_, Machine}
 use Rattle.listing.specs.Stream.{Stream, before, streamAt}
 use Rattle.listing.proofs.Runs.{call-by}
@@ -33,6 +34,12 @@ pub call-as : (M : Machine) (s : List ℕ) (w : State (M .Reg)) {x q : Standing}
     x ≡ standingOf (w .cursor) (length s) → x ≡ q → y ≡ called M w s q → y ≡ call M s w
 call-as M s w e f h = h ∙ sym (call-by M s w (sym e ∙ f))
 
+-- ---- a place that is due, by what it lacks
+
+pub due-as : (M : Machine) (given : State (M .Reg)) (offset : ℕ) (behind : State (M .Reg)) {x q : Lack} {y : Answer (M .Reg) (M .Item)} →
+    x ≡ M .lack (behind .registers) → x ≡ q → y ≡ due M given offset behind q → y ≡ due M given offset behind (M .lack (behind .registers))
+due-as M given offset behind e f h = h ∙ ap (due M given offset behind) (sym f ∙ e)
+
 -- ---- a turn of the loop
 
 -- the invariant: the call answers what reading on from here answers
@@ -40,13 +47,19 @@ pub record Reading (M : Machine) (s : List ℕ) (given : State (M .Reg)) (a : An
   pub same : a ≡ read M given (streamAt M s (c .at)) (state c g)
 
 -- where an operation moves the cursor on, it reads behind the operation
-on-at : (c : Cursor) (next : ℕ) (t : Turn) {d : Cursor} → movedBy c next t ≡ moved.On d → d .at ≡ next
+abbrev IfOn : ℕ → Moved → Type 0
+IfOn next (moved.On c) = c .at ≡ next
+IfOn next (moved.Due c) = Unit {0}
+IfOn next (moved.End c) = Unit {0}
+IfOn next (moved.Refused e) = Unit {0}
+
+if-on : (c : Cursor) (next : ℕ) (t : Turn) → IfOn next (movedBy c next t)
 unfolding movedBy
-on-at c next (On to) {d} e = ?
-on-at c next Anew e = ?
-on-at c next (Yields left a) e = cc
-on-at c next Done e = cc
-on-at c next (Stop r) e = cc
+if-on c next (On to) = refl
+if-on c next Anew = refl
+if-on c next (Yields left advance) = tt
+if-on c next Done = tt
+if-on c next (Stop e) = tt
 
 module _ (M : Machine) {s : List ℕ} {given : State (M .Reg)} {a : Answer (M .Reg) (M .Item)} {c : Cursor} {g : M .Reg}
     (r : Reading M s given a c g) {x : Parsed (M .Op)} (p : x ≡ operationAt (M .table) s (c .at)) where
@@ -69,7 +82,7 @@ module _ (M : Machine) {s : List ℕ} {given : State (M .Reg)} {a : Answer (M .R
 
     module _ {d : Cursor} (u : m ≡ moved.On d) where
       there : d .at ≡ next
-      there = on-at c next (turnOf (c .size) (c .offset) n) (sym e ∙ u)
+      there = subst (IfOn next) (sym e ∙ u) (if-on c next (turnOf (c .size) (c .offset) n))
 
       pub further : length s - d .at < length s - c .at
       further = let w = ends-within M s (c .at) (sym p ∙ q) in omega (arith, w .beyond, w .inside, there)

@@ -18,6 +18,7 @@ use Rattle.numbers.specs.declared.leb128.Signed.{Signed}
 use Rattle.numbers.specs.declared.leb128.Signed.the-variants as signed
 use Rattle.numbers.specs.declared.strings.Text.{Text}
 use Rattle.numbers.specs.declared.strings.Text.the-variants as text
+use Rattle.refusal.specs.declared.Refusal.{Refusal}
 use Rattle.operations.specs.Table.{Parsed, operation, faulty, nothing, Operands, alone, uleb, ulebs, sleb, string, Row, _⇒_, thenNumber, thenSigned, thenText, operandsAt, rowAt, operationAt}
 use Rattle.operations.specs.Told.{rebaseTold, bindTold}
 use Rattle.operations.specs.declared.rebase.RebaseOperation.{RebaseOperation}
@@ -120,3 +121,29 @@ rebase-one = one-each rebaseTold rebaseUntold rebase-back
 
 pub bind-one : (r q : BindParse) → bindTold r ≡ bindTold q → r ≡ q
 bind-one = one-each bindTold bindUntold bind-back
+
+-- ---- what is told of a parse, by a match on it: for `search`
+
+module _ {r : RebaseParse} where
+  pub rebase-operation : {op : RebaseOperation} {next : ℕ} → r ≡ rebase.Operation op next → rebaseTold r ≡ operation op next
+  rebase-operation e = ap rebaseTold e
+
+  pub rebase-refused : {e : Refusal} → r ≡ rebase.Refused e → rebaseTold r ≡ faulty e
+  rebase-refused e = ap rebaseTold e
+
+  pub rebase-end : r ≡ rebase.End → rebaseTold r ≡ nothing
+  rebase-end e = ap rebaseTold e
+
+pub ruleset rebase-told = (rebase-operation, rebase-refused, rebase-end)
+
+module _ {r : BindParse} where
+  pub bind-operation : {op : BindOperation} {next : ℕ} → r ≡ bind.Operation op next → bindTold r ≡ operation op next
+  bind-operation e = ap bindTold e
+
+  pub bind-refused : {e : Refusal} → r ≡ bind.Refused e → bindTold r ≡ faulty e
+  bind-refused e = ap bindTold e
+
+  pub bind-end : r ≡ bind.End → bindTold r ≡ nothing
+  bind-end e = ap bindTold e
+
+pub ruleset bind-told = (bind-operation, bind-refused, bind-end)

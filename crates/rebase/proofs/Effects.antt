@@ -1,0 +1,18 @@
+-- What an operation does, by a match on it: for `search`. Assumes nothing.
+use Prim.Native.Nat.{ℕ, _*_}
+use mathlib.Core.Path.{_≡_, refl, ap, sym, _∙_}
+use Rattle.cursor.specs.declared.Motion.the-variants.{Adds}
+use Rattle.listing.specs.Machine.{Effect, _and_}
+use Rattle.operations.specs.declared.rebase.RebaseOperation.{RebaseOperation}
+use Rattle.operations.specs.declared.rebase.RebaseOperation.the-variants.{AddAddrScaled}
+use Rattle.rebase.specs.Rebases.{effectOf}
+use Rattle.rebase.specs.declared.Registers.{Registers}
+
+module _ (size : ℕ) (g : Registers) {op : RebaseOperation} where
+  pub effect-of : {q : RebaseOperation} {x : Effect Registers} → op ≡ q → x ≡ effectOf size q g → x ≡ effectOf size op g
+  effect-of e f = rw e f
+
+  pub effect-scaled : {count n : ℕ} → op ≡ AddAddrScaled count → n ≡ count * size → g and Adds n ≡ effectOf size op g
+  effect-scaled e f = rw (e, f)
+
+pub ruleset effect-laws = (effect-of, effect-scaled)

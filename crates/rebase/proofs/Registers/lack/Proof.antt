@@ -1,0 +1,12 @@
+-- `rebase::Registers::lack` meets its contract. Assumes nothing.
+use borrow.Author.Needs.{needs}
+use Rattle.rebase.proofs.Registers.lack.Statement.{statement}
+use Rattle.rebase.proofs.Registers.lack.Tie as tie
+
+pub lack-spec : {M : Type 1} → statement M
+lack-spec =
+    tie.close
+    (tie.spec
+    (λ c. search needs)
+    (λ c. simp (c .before .if1 .taken, c .if2 .left))
+    (λ c. simp (c .if1 .left)))

@@ -1,0 +1,2 @@
+pub mod Rebases
+pub mod Told

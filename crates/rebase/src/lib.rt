@@ -1,0 +1,222 @@
+// The walk over a rebase stream: a state goes in, and a place that the loader rebases or the end comes
+// out, with the next state.
+ghost use mathlib.Core.Path.{_≡_};
+ghost use Rattle.listing.specs.Call.{begin, refusal, due, read, call};
+ghost use Rattle.listing.specs.Stream.{streamAt};
+ghost use Rattle.rebase.specs.Rebases.{unset, effectOf, lackOf, itemOf, rebases};
+ghost use Rattle.rebase.specs.Told.{view, startTold, told, effectTold};
+use cursor::Cursor;
+use cursor::Lack;
+use cursor::Motion;
+use cursor::Moved;
+use cursor::Standing;
+use cursor::Start;
+use operations::rebase::RebaseOperation;
+use operations::rebase::RebaseParse;
+use refusal::Refusal;
+
+// A place that the loader rebases: its segment, its offset there, and its type.
+pub struct Rebase {
+    pub segment: u8,
+    pub offset: u64,
+    pub kind: u8,
+}
+
+// What operations have set, but for the offset.
+pub struct Registers {
+    pub segmented: bool,
+    pub typed: bool,
+    pub segment: u8,
+    pub kind: u8,
+}
+
+pub struct RebaseWalk {
+    pub cursor: Cursor,
+    pub registers: Registers,
+}
+
+pub enum RebaseStart {
+    Begun(RebaseWalk),
+    Refused(Refusal),
+}
+
+pub enum RebaseStep {
+    Item(Rebase, RebaseWalk),
+    End(RebaseWalk),
+    Refused(Refusal, RebaseWalk),
+}
+
+struct RebaseEffect {
+    registers: Registers,
+    motion: Motion,
+}
+
+impl Registers {
+    // What an operation does.
+    fn effect(self, size: u8, op: RebaseOperation) -> RebaseEffect
+        ensures { λ r. ⌜ effectTold r ≡ effectOf size op self ⌝ }
+    {
+        let mut registers = self;
+        match op {
+            RebaseOperation::Done => RebaseEffect {
+                registers,
+                motion: Motion::Ends,
+            },
+            RebaseOperation::SetType { kind } => {
+                registers.typed = true;
+                registers.kind = kind;
+                RebaseEffect {
+                    registers,
+                    motion: Motion::Stays,
+                }
+            }
+            RebaseOperation::SetSegmentAndOffset { index, offset } => {
+                registers.segmented = true;
+                registers.segment = index;
+                RebaseEffect {
+                    registers,
+                    motion: Motion::Seeks(offset),
+                }
+            }
+            RebaseOperation::AddAddr { offset } => RebaseEffect {
+                registers,
+                motion: Motion::Adds(offset),
+            },
+            RebaseOperation::AddAddrScaled { count } => RebaseEffect {
+                registers,
+                motion: Motion::Adds(cursor::scaled(count, size)),
+            },
+            RebaseOperation::DoRebaseTimes { count } => RebaseEffect {
+                registers,
+                motion: Motion::Repeats { count, addition: 0 },
+            },
+            RebaseOperation::DoRebaseAddAddr { offset } => RebaseEffect {
+                registers,
+                motion: Motion::Repeats {
+                    count: 1,
+                    addition: offset,
+                },
+            },
+            RebaseOperation::DoRebaseTimesSkipping { count, skip } => RebaseEffect {
+                registers,
+                motion: Motion::Repeats {
+                    count,
+                    addition: skip,
+                },
+            },
+        }
+    }
+
+    // What a place that is due lacks.
+    fn lack(self) -> Lack
+        ensures { λ r. ⌜ r ≡ lackOf self ⌝ }
+    {
+        if self.segmented {
+            if self.typed {
+                Lack::Nothing
+            } else {
+                Lack::Lacks(Refusal::NoType)
+            }
+        } else {
+            Lack::Lacks(Refusal::NoSegment)
+        }
+    }
+}
+
+impl RebaseWalk {
+    // A walk over a stream of a pointer size.
+    pub fn start(size: u8) -> RebaseStart
+        ensures { λ r. ⌜ startTold r ≡ begin size unset ⌝ }
+    {
+        match Cursor::start(size) {
+            Start::Begun(cursor) => {
+                let registers = Registers {
+                    segmented: false,
+                    typed: false,
+                    segment: 0,
+                    kind: 0,
+                };
+                RebaseStart::Begun(RebaseWalk { cursor, registers })
+            }
+            Start::Refused(e) => RebaseStart::Refused(e),
+        }
+    }
+
+    // The next place, or the end. Each call lends the same stream.
+    pub fn step(self, s: &[u8]) -> RebaseStep
+        ensures { λ r. ⌜ told r ≡ call rebases (now (s .entry)) (view self) ⌝ }
+    {
+        let given = self.cursor;
+        match given.standing(s.len()) {
+            Standing::OutOfRange => RebaseStep::Refused(Refusal::StateOutOfRange, self),
+            Standing::Ended => RebaseStep::End(self),
+            Standing::Due(cursor) => {
+                let registers = self.registers;
+                self.due(given.offset, RebaseWalk { cursor, registers })
+            }
+            Standing::Reading => self.read(s),
+        }
+    }
+
+    // Reads operations until a place is due, the stream ends or something is refused.
+    fn read(self, s: &[u8]) -> RebaseStep
+        ensures { λ r. ⌜ told r ≡ read rebases (view self) (streamAt rebases (now (s .entry)) (self .cursor .at)) (view self) ⌝ }
+    {
+        let mut cursor = self.cursor;
+        let mut registers = self.registers;
+        loop {
+            match RebaseOperation::parse(s, cursor.at) {
+                RebaseParse::End => return RebaseStep::End(RebaseWalk { cursor, registers }),
+                RebaseParse::Refused(e) => return self.refused(e),
+                RebaseParse::Operation(op, next) => {
+                    let did = registers.effect(cursor.size, op);
+                    let motion = did.motion;
+                    registers = did.registers;
+                    match cursor.moved(next, motion) {
+                        Moved::On(c) => cursor = c,
+                        Moved::Due(c) => {
+                            return self.due(
+                                cursor.offset,
+                                RebaseWalk {
+                                    cursor: c,
+                                    registers,
+                                },
+                            );
+                        }
+                        Moved::End(c) => return RebaseStep::End(RebaseWalk {
+                            cursor: c,
+                            registers,
+                        }),
+                        Moved::Refused(e) => return self.refused(e),
+                    }
+                }
+            }
+        }
+    }
+
+    // The place that is due at an offset, with the state behind it, or what it lacks.
+    fn due(self, offset: u64, behind: RebaseWalk) -> RebaseStep
+        ensures { λ r. ⌜ told r ≡ due rebases (view self) offset (view behind) (lackOf (behind .registers)) ⌝ }
+    {
+        let g = behind.registers;
+        match g.lack() {
+            Lack::Nothing => {
+                let place = Rebase {
+                    segment: g.segment,
+                    offset,
+                    kind: g.kind,
+                };
+                RebaseStep::Item(place, behind)
+            }
+            Lack::Lacks(e) => self.refused(e),
+        }
+    }
+
+    // A refusal, with the state as given but marked as ended.
+    fn refused(mut self, e: Refusal) -> RebaseStep
+        ensures { λ r. ⌜ told r ≡ refusal (view self) e ⌝ }
+    {
+        self.cursor.ended = true;
+        RebaseStep::Refused(e, self)
+    }
+}
