@@ -6,22 +6,24 @@ ghost use Rattle.cursor.specs.Cursor.{isPointerSize, behindPlace, startO
 ghost use Rattle.cursor.specs.Motion.{turnOf};
 use refusal::Refusal;
 
-// What an operation does to the place, or says.
+// What an operation does to the place, or says. A repeat has a count of places, and what each of them
+// adds to the offset beside the pointer size.
 pub enum Motion {
     Stays,
     Adds(u64),
     Seeks(u64),
     Restarts,
-    Repeats { count: u64, addition: u64 },
+    Repeats(u64, u64),
     Ends,
     Refuses(Refusal),
 }
 
-// What that comes to at an offset. Of the places that are due, `left` are behind the first.
+// What that comes to at an offset. Where places are due: how many behind the first, and how far each is
+// from the one before it.
 pub enum Turn {
     On(u64),
     Anew,
-    Yields { left: u64, advance: u64 },
+    Yields(u64, u64),
     Done,
     Stop(Refusal),
 }
@@ -72,13 +74,12 @@ impl Motion {
             Motion::Adds(n) => Turn::On(std::num::wrapping_add_u64(offset, n)),
             Motion::Seeks(to) => Turn::On(to),
             Motion::Restarts => Turn::Anew,
-            Motion::Repeats { count, addition } => {
+            Motion::Repeats(count, addition) => {
                 if count == 0 {
                     return Turn::On(offset);
                 }
                 let advance = std::num::wrapping_add_u64(size as u64, addition);
-                let left = count - 1;
-                Turn::Yields { left, advance }
+                Turn::Yields(count - 1, advance)
             }
             Motion::Ends => Turn::Done,
             Motion::Refuses(e) => Turn::Stop(e),
@@ -141,7 +142,7 @@ impl Cursor {
                 c.offset = 0;
                 Moved::On(c)
             }
-            Turn::Yields { left, advance } => Moved::Due(c.behind_place(left, advance)),
+            Turn::Yields(left, advance) => Moved::Due(c.behind_place(left, advance)),
             Turn::Done => Moved::End(c),
             Turn::Stop(e) => Moved::Refused(e),
         }

@@ -12,7 +12,7 @@ module _ (size : ℕ) (g : Registers) {op : RebaseOperation} where
   pub effect-of : {q : RebaseOperation} {x : Effect Registers} → op ≡ q → x ≡ effectOf size q g → x ≡ effectOf size op g
   effect-of e f = rw e f
 
-  pub effect-scaled : {count n : ℕ} → op ≡ AddAddrScaled count → n ≡ count * size → g and Adds n ≡ effectOf size op g
-  effect-scaled e f = rw (e, f)
+  pub effect-scaled : {count n : ℕ} {x : Effect Registers} → op ≡ AddAddrScaled count → n ≡ count * size → x ≡ (g and Adds n) → x ≡ effectOf size op g
+  effect-scaled e f h = rw e (h ∙ ap (λ (n : ℕ). g and Adds n) f)
 
 pub ruleset effect-laws = (effect-of, effect-scaled)

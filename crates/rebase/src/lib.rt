@@ -2,6 +2,7 @@
 // out, with the next state.
 ghost use mathlib.Core.Path.{_≡_};
 ghost use Rattle.listing.specs.Call.{begin, refusal, due, read, call};
+ghost use Rattle.listing.specs.Machine.{_and_};
 ghost use Rattle.listing.specs.Stream.{streamAt};
 ghost use Rattle.rebase.specs.Rebases.{unset, effectOf, lackOf, itemOf, rebases};
 ghost use Rattle.rebase.specs.Told.{view, startTold, told, effectTold};
@@ -56,54 +57,39 @@ impl Registers {
     fn effect(self, size: u8, op: RebaseOperation) -> RebaseEffect
         ensures { λ r. ⌜ effectTold r ≡ effectOf size op self ⌝ }
     {
-        let mut registers = self;
+        let mut g = self;
         match op {
-            RebaseOperation::Done => RebaseEffect {
-                registers,
-                motion: Motion::Ends,
-            },
+            RebaseOperation::Done => g.and(Motion::Ends),
             RebaseOperation::SetType { kind } => {
-                registers.typed = true;
-                registers.kind = kind;
-                RebaseEffect {
-                    registers,
-                    motion: Motion::Stays,
-                }
+                g.typed = true;
+                g.kind = kind;
+                g.and(Motion::Stays)
             }
             RebaseOperation::SetSegmentAndOffset { index, offset } => {
-                registers.segmented = true;
-                registers.segment = index;
-                RebaseEffect {
-                    registers,
-                    motion: Motion::Seeks(offset),
-                }
+                g.segmented = true;
+                g.segment = index;
+                g.and(Motion::Seeks(offset))
             }
-            RebaseOperation::AddAddr { offset } => RebaseEffect {
-                registers,
-                motion: Motion::Adds(offset),
-            },
-            RebaseOperation::AddAddrScaled { count } => RebaseEffect {
-                registers,
-                motion: Motion::Adds(cursor::scaled(count, size)),
-            },
-            RebaseOperation::DoRebaseTimes { count } => RebaseEffect {
-                registers,
-                motion: Motion::Repeats { count, addition: 0 },
-            },
-            RebaseOperation::DoRebaseAddAddr { offset } => RebaseEffect {
-                registers,
-                motion: Motion::Repeats {
-                    count: 1,
-                    addition: offset,
-                },
-            },
-            RebaseOperation::DoRebaseTimesSkipping { count, skip } => RebaseEffect {
-                registers,
-                motion: Motion::Repeats {
-                    count,
-                    addition: skip,
-                },
-            },
+            RebaseOperation::AddAddr { offset } => g.and(Motion::Adds(offset)),
+            RebaseOperation::AddAddrScaled { count } => g.and(Motion::Adds(cursor::scaled(
+                count,
+                size,
+            ))),
+            RebaseOperation::DoRebaseTimes { count } => g.and(Motion::Repeats(count, 0)),
+            RebaseOperation::DoRebaseAddAddr { offset } => g.and(Motion::Repeats(1, offset)),
+            RebaseOperation::DoRebaseTimesSkipping { count, skip } => g.and(Motion::Repeats(
+                count,
+                skip,
+            )),
+        }
+    }
+
+    fn and(self, motion: Motion) -> RebaseEffect
+        ensures { λ r. ⌜ effectTold r ≡ (self and motion) ⌝ }
+    {
+        RebaseEffect {
+            registers: self,
+            motion,
         }
     }
 

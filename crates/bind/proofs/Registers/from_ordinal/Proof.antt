@@ -1,0 +1,15 @@
+-- `bind::Registers::from_ordinal` meets its contract. Assumes nothing.
+use borrow.Author.Needs.{needs}
+use Rattle.bind.proofs.Effects.{ordinal-large, ordinal-set}
+use Rattle.bind.proofs.Registers.from_ordinal.Statement.{statement}
+use Rattle.bind.proofs.Registers.from_ordinal.Tie as tie
+
+pub from-ordinal-spec : {M : Type 1} → statement M
+from-ordinal-spec =
+    tie.close
+    (tie.spec
+    (λ c κs. search needs)
+    (λ c. search (ordinal-large, ordinal-set, needs))
+    (λ c. search needs)
+    (λ c κs. search needs)
+    (λ c. search (ordinal-large, ordinal-set, needs)))

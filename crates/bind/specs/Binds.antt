@@ -1,0 +1,217 @@
+-- Bind streams: how a walk begins, what each operation does, what a place lacks and what it gives.
+use Prim.Native.Nat.{ℕ, _*_}
+use mathlib.Core.Bool.{true, false, cond}
+use lib.Dec.{leb}
+use lib.IntN.{ℤ, pos, negℤ}
+use Rattle.cursor.specs.declared.Lack.{Lack}
+use Rattle.cursor.specs.declared.Lack.the-variants.{Nothing, Lacks}
+use Rattle.cursor.specs.declared.Motion.the-variants.{Stays, Adds, Seeks, Restarts, Repeats, Ends, Refuses}
+use Rattle.listing.specs.Machine.{Effect, _and_, Machine}
+use Rattle.operations.specs.Loader.{bindTable}
+use Rattle.operations.specs.declared.bind.BindOperation.{BindOperation}
+use Rattle.operations.specs.declared.bind.BindOperation.the-variants.{
+  Done,
+  SetDylibOrdinal,
+  SetDylibSpecial,
+  SetSymbol,
+  SetType,
+  SetAddend,
+  SetSegmentAndOffset,
+  AddAddr,
+  DoBind,
+  DoBindAddAddr,
+  DoBindAddAddrScaled,
+  DoBindTimesSkipping,
+}
+use Rattle.bind.specs.declared.Bind.{Bind}
+use Rattle.bind.specs.declared.Registers.{Registers}
+use Rattle.refusal.specs.declared.Refusal.the-variants.{OrdinalTooLarge, NoSegment, NoType, NoLibrary, NoSymbol}
+
+-- ---- the registers
+
+abbrev pub unset : Registers
+unset =
+    record {
+      lazy = false;
+      segmented = false;
+      typed = false;
+      sourced = false;
+      named = false;
+      segment = 0;
+      kind = 0;
+      library = pos 0;
+      place = 0;
+      length = 0;
+      flags = 0;
+      addend = pos 0;
+    }
+
+abbrev pub withLibrary : ℤ → Registers → Registers
+withLibrary library g =
+    record {
+      lazy = g .lazy;
+      segmented = g .segmented;
+      typed = g .typed;
+      sourced = true;
+      named = g .named;
+      segment = g .segment;
+      kind = g .kind;
+      library = library;
+      place = g .place;
+      length = g .length;
+      flags = g .flags;
+      addend = g .addend;
+    }
+
+abbrev pub withSymbol : (flags place length : ℕ) → Registers → Registers
+withSymbol flags place length g =
+    record {
+      lazy = g .lazy;
+      segmented = g .segmented;
+      typed = g .typed;
+      sourced = g .sourced;
+      named = true;
+      segment = g .segment;
+      kind = g .kind;
+      library = g .library;
+      place = place;
+      length = length;
+      flags = flags;
+      addend = g .addend;
+    }
+
+abbrev pub withType : ℕ → Registers → Registers
+withType kind g =
+    record {
+      lazy = g .lazy;
+      segmented = g .segmented;
+      typed = true;
+      sourced = g .sourced;
+      named = g .named;
+      segment = g .segment;
+      kind = kind;
+      library = g .library;
+      place = g .place;
+      length = g .length;
+      flags = g .flags;
+      addend = g .addend;
+    }
+
+abbrev pub withAddend : ℤ → Registers → Registers
+withAddend addend g =
+    record {
+      lazy = g .lazy;
+      segmented = g .segmented;
+      typed = g .typed;
+      sourced = g .sourced;
+      named = g .named;
+      segment = g .segment;
+      kind = g .kind;
+      library = g .library;
+      place = g .place;
+      length = g .length;
+      flags = g .flags;
+      addend = addend;
+    }
+
+abbrev pub withSegment : ℕ → Registers → Registers
+withSegment index g =
+    record {
+      lazy = g .lazy;
+      segmented = true;
+      typed = g .typed;
+      sourced = g .sourced;
+      named = g .named;
+      segment = index;
+      kind = g .kind;
+      library = g .library;
+      place = g .place;
+      length = g .length;
+      flags = g .flags;
+      addend = g .addend;
+    }
+
+abbrev pub asLazy : Registers → Registers
+asLazy g =
+    record {
+      lazy = true;
+      segmented = g .segmented;
+      typed = g .typed;
+      sourced = g .sourced;
+      named = g .named;
+      segment = g .segment;
+      kind = g .kind;
+      library = g .library;
+      place = g .place;
+      length = g .length;
+      flags = g .flags;
+      addend = g .addend;
+    }
+
+-- ---- how a walk begins: plain with nothing set, weak with type 1 and library -3, lazy with type 1
+
+abbrev pub weakly : Registers
+weakly = withLibrary (negℤ (pos 3)) (withType 1 unset)
+
+abbrev pub lazily : Registers
+lazily = asLazy (withType 1 unset)
+
+-- ---- what an operation does
+
+-- in a lazy walk Done puts everything back to a lazy start
+abbrev pub doneOf : Registers → Effect Registers
+doneOf g = cond (g .lazy) (lazily and Restarts) (g and Ends)
+
+abbrev pub ordinalOf : (ordinal : ℕ) → Registers → Effect Registers
+ordinalOf ordinal g = cond (leb ordinal 2147483647) (withLibrary (pos ordinal) g and Stays) (g and Refuses OrdinalTooLarge)
+
+abbrev pub effectOf : (size : ℕ) → BindOperation → Registers → Effect Registers
+effectOf size Done g = doneOf g
+effectOf size (SetDylibOrdinal ordinal) g = ordinalOf ordinal g
+effectOf size (SetDylibSpecial ordinal) g = withLibrary ordinal g and Stays
+effectOf size (SetSymbol flags place length) g = withSymbol flags place length g and Stays
+effectOf size (SetType kind) g = withType kind g and Stays
+effectOf size (SetAddend addend) g = withAddend addend g and Stays
+effectOf size (SetSegmentAndOffset index offset) g = withSegment index g and Seeks offset
+effectOf size (AddAddr offset) g = g and Adds offset
+effectOf size DoBind g = g and Repeats 1 0
+effectOf size (DoBindAddAddr offset) g = g and Repeats 1 offset
+effectOf size (DoBindAddAddrScaled count) g = g and Repeats 1 (count * size)
+effectOf size (DoBindTimesSkipping count skip) g = g and Repeats count skip
+
+-- ---- a place that is due
+
+abbrev pub lackOf : Registers → Lack
+lackOf g =
+    cond (g .segmented)
+    (cond (g .typed)
+    (cond (g .sourced)
+    (cond (g .named) Nothing (Lacks NoSymbol))
+    (Lacks NoLibrary))
+    (Lacks NoType))
+    (Lacks NoSegment)
+
+abbrev pub itemOf : Registers → (offset : ℕ) → Bind
+itemOf g offset =
+    record {
+      segment = g .segment;
+      offset = offset;
+      kind = g .kind;
+      library = g .library;
+      place = g .place;
+      length = g .length;
+      flags = g .flags;
+      addend = g .addend;
+    }
+
+abbrev pub binds : Machine
+binds =
+    record {
+      Op = BindOperation;
+      Reg = Registers;
+      Item = Bind;
+      table = bindTable;
+      effect = effectOf;
+      lack = lackOf;
+      item = itemOf;
+    }

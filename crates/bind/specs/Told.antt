@@ -1,0 +1,27 @@
+-- What the code's values say.
+use Rattle.listing.specs.Call.{State, state, Begin, begun, notBegun, Answer, item, end, refused}
+use Rattle.listing.specs.Machine.{Effect, _and_}
+use Rattle.bind.specs.declared.Bind.{Bind}
+use Rattle.bind.specs.declared.BindEffect.{BindEffect}
+use Rattle.bind.specs.declared.BindStart.{BindStart}
+use Rattle.bind.specs.declared.BindStart.the-variants as start
+use Rattle.bind.specs.declared.BindStep.{BindStep}
+use Rattle.bind.specs.declared.BindStep.the-variants as step
+use Rattle.bind.specs.declared.BindWalk.{BindWalk}
+use Rattle.bind.specs.declared.Registers.{Registers}
+use Rattle.refusal.specs.Numbers.{numberOf}
+
+abbrev pub view : BindWalk → State Registers
+view w = state (w .cursor) (w .registers)
+
+abbrev pub startTold : BindStart → Begin Registers
+startTold (start.Begun w) = begun (view w)
+startTold (start.Refused e) = notBegun (numberOf e)
+
+abbrev pub told : BindStep → Answer Registers Bind
+told (step.Item place w) = item place (view w)
+told (step.End w) = end (view w)
+told (step.Refused e w) = refused (numberOf e) (view w)
+
+abbrev pub effectTold : BindEffect → Effect Registers
+effectTold r = r .registers and r .motion
