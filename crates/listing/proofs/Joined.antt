@@ -2,22 +2,24 @@
 use Prim.Native.Nat.{ℕ, zero, suc, _+_, _%_, _^_, _<_}
 use mathlib.Core.Path.{_≡_, refl, ap, sym, _∙_, subst}
 use mathlib.Core.List.{List}
-use mathlib.Core.Bool.{true}
+use mathlib.Core.Bool.{Bool, true, false, cond}
 use native.Mathlib.Omega.{arith}
 use lib.ListN.{length}
 use Rattle.cursor.proofs.Places.{place-first, place-next, place-below, Bounded, bounded}
 use Rattle.cursor.proofs.Turns.{stands-live}
-use Rattle.cursor.specs.Cursor.{isPointerSize, atStart}
+use Rattle.cursor.specs.Cursor.{isPointerSize, atStart, startOf}
 use Rattle.cursor.specs.Motion.{placeAt, turnOf}
 use Rattle.cursor.specs.declared.Lack.{Lack}
 use Rattle.cursor.specs.declared.Lack.the-variants.{Nothing, Lacks}
+use Rattle.cursor.specs.declared.Start.the-variants as start
 use Rattle.cursor.specs.declared.Turn.{Turn}
 use Rattle.cursor.specs.declared.Turn.the-variants.{On, Anew, Yields, Done, Stop}
-use Rattle.listing.specs.Call.{State, state}
+use Rattle.listing.specs.Call.{State, state, begun, beginFrom, begin}
 use Rattle.listing.specs.Listing.{Listing, places, repeated, listed, listingOf, listing}
 use Rattle.listing.specs.Machine.{Effect, Machine}
 use Rattle.listing.specs.Runs.{Run, gives, Walks, heard}
 use Rattle.listing.specs.Stream.{Stream, out, bad, one, streamAt}
+use Rattle.refusal.specs.declared.Refusal.the-variants.{PointerSize}
 use Rattle.listing.proofs.Runs.{InRange, live, runs, runDue, runTurn, runOps, runBy, runOf, walks-all, walks-one}
 
 module _ (M : Machine) where
@@ -72,12 +74,27 @@ module _ (M : Machine) where
         (ap (runBy M s w) (sym (stands-live (w .cursor) (length s) (r .inside) refl (r .sized) refl)) ∙ sym (heard-ops size (streamAt M s at) 0 g o b))
         (walks-all M s w)
 
-    module _ (size : ℕ) (sized : isPointerSize size ≡ true) (g : M .Reg) where
+    module _ (size : ℕ) (g : M .Reg) where
+      record Begun (w : State (M .Reg)) : Type 0 where
+        sized : isPointerSize size ≡ true
+        is : w ≡ state (atStart size) g
+
+      begun-is : {w : State (M .Reg)} → begin size g ≡ begun w → Begun w
+      unfolding startOf
+      begun-is {w} e = by-size (isPointerSize size) refl e
+        where
+          by-size : (b : Bool) → isPointerSize size ≡ b → beginFrom g (cond b (start.Begun (atStart size)) (start.Refused PointerSize)) ≡ begun w → Begun w
+          by-size true z f = record { sized = z; is = cc }
+          by-size false z f = let q : _≡_ {A = ℕ} 0 1 = cc in absurd (omega arith)
+
       -- calls from a start on say what the stream lists
-      pub joined : Walks M s (state (atStart size) g) (heard (listing M size g s))
+      pub joined : (w : State (M .Reg)) → begin size g ≡ begun w → Walks M s w (heard (listing M size g s))
       unfolding listing
-      joined = reads-on size 0 0 0 g (record { inside = omega arith; sized = sized }) (omega arith)
+      joined w e =
+          let b = begun-is e in
+          subst (λ (v : State (M .Reg)). Walks M s v (heard (listing M size g s))) (sym (b .is))
+          (reads-on size 0 0 0 g (record { inside = omega arith; sized = b .sized }) (omega arith))
 
       -- and nothing else
-      pub joined-only : (r : Run (M .Item)) → Walks M s (state (atStart size) g) r → r ≡ heard (listing M size g s)
-      joined-only r p = walks-one M s p joined
+      pub joined-only : (w : State (M .Reg)) → begin size g ≡ begun w → (r : Run (M .Item)) → Walks M s w r → r ≡ heard (listing M size g s)
+      joined-only w e r p = walks-one M s p (joined w e)

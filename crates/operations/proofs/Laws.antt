@@ -18,6 +18,7 @@ use Rattle.numbers.specs.declared.leb128.Signed.{Signed}
 use Rattle.numbers.specs.declared.leb128.Signed.the-variants as signed
 use Rattle.numbers.specs.declared.strings.Text.{Text}
 use Rattle.numbers.specs.declared.strings.Text.the-variants as text
+use Rattle.refusal.proofs.Unique.{one-each}
 use Rattle.refusal.specs.declared.Refusal.{Refusal}
 use Rattle.operations.specs.Table.{Parsed, operation, faulty, nothing, Operands, alone, uleb, ulebs, sleb, string, Row, _⇒_, thenNumber, thenSigned, thenText, operandsAt, rowAt, operationAt}
 use Rattle.operations.specs.Told.{rebaseTold, bindTold}
@@ -111,10 +112,6 @@ bind-back : (r : BindParse) → bindUntold (bindTold r) ≡ r
 bind-back (bind.Operation op next) = refl
 bind-back (bind.Refused e) = refl
 bind-back bind.End = refl
-
--- one value of A for each of B, if each of A comes back
-pub one-each : {A B : Type 0} (to : A → B) (back : B → A) → ((a : A) → back (to a) ≡ a) → (a c : A) → to a ≡ to c → a ≡ c
-one-each to back same a c e = sym (same a) ∙ ap back e ∙ same c
 
 pub rebase-one : (r q : RebaseParse) → rebaseTold r ≡ rebaseTold q → r ≡ q
 rebase-one = one-each rebaseTold rebaseUntold rebase-back

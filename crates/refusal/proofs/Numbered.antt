@@ -3,6 +3,7 @@ use Prim.Native.Nat.{ℕ, _-_}
 use mathlib.Core.Path.{_≡_, refl, ap, sym, _∙_}
 use mathlib.Core.List.{List, [], _∷_}
 use lib.ListN.{getD}
+use Rattle.refusal.proofs.Unique.{one-each}
 use Rattle.refusal.specs.Numbers.{numberOf}
 use Rattle.refusal.specs.declared.Refusal.{Refusal}
 use Rattle.refusal.specs.declared.Refusal.the-variants.{
@@ -61,29 +62,31 @@ refusals =
     UnfitSizes ∷
     []
 
-back : (r : Refusal) → getD refusals (numberOf r - 1) PointerSize ≡ r
-back PointerSize = refl
-back UnknownOpcode = refl
-back FaultyOperand = refl
-back OrdinalTooLarge = refl
-back NoSegment = refl
-back NoType = refl
-back NoLibrary = refl
-back NoSymbol = refl
-back FaultyChains = refl
-back UnknownVersion = refl
-back UnsupportedFormat = refl
-back BeyondStarts = refl
-back PointerOutside = refl
-back FaultyImport = refl
-back FaultyNode = refl
-back ChildIsOpen = refl
-back TooManyOpenNodes = refl
-back NameTooLong = refl
-back StateOutOfRange = refl
-back PlaceOutside = refl
-back UnfitSizes = refl
+abbrev pub refusalOf : ℕ → Refusal
+refusalOf n = getD refusals (n - 1) PointerSize
 
-pub number-one : {r q : Refusal} → numberOf r ≡ numberOf q → r ≡ q
-number-one {r} {q} e =
-    sym (back r) ∙ ap (λ (n : ℕ). getD refusals (n - 1) PointerSize) e ∙ back q
+pub refusal-back : (r : Refusal) → refusalOf (numberOf r) ≡ r
+refusal-back PointerSize = refl
+refusal-back UnknownOpcode = refl
+refusal-back FaultyOperand = refl
+refusal-back OrdinalTooLarge = refl
+refusal-back NoSegment = refl
+refusal-back NoType = refl
+refusal-back NoLibrary = refl
+refusal-back NoSymbol = refl
+refusal-back FaultyChains = refl
+refusal-back UnknownVersion = refl
+refusal-back UnsupportedFormat = refl
+refusal-back BeyondStarts = refl
+refusal-back PointerOutside = refl
+refusal-back FaultyImport = refl
+refusal-back FaultyNode = refl
+refusal-back ChildIsOpen = refl
+refusal-back TooManyOpenNodes = refl
+refusal-back NameTooLong = refl
+refusal-back StateOutOfRange = refl
+refusal-back PlaceOutside = refl
+refusal-back UnfitSizes = refl
+
+pub number-one : (r q : Refusal) → numberOf r ≡ numberOf q → r ≡ q
+number-one = one-each numberOf refusalOf refusal-back

@@ -1,0 +1,43 @@
+-- What an answer says determines it: `told` and `startTold` lose nothing, so the contracts of starts and steps leave one answer and one
+-- state each. Assumes nothing.
+use Prim.Native.Nat.{ℕ}
+use mathlib.Core.Path.{_≡_, refl, ap}
+use Rattle.listing.specs.Call.{State, Begin, begun, notBegun, Answer, item, end, refused}
+use Rattle.refusal.proofs.Numbered.{refusalOf, refusal-back}
+use Rattle.refusal.proofs.Unique.{one-each}
+use Rattle.refusal.specs.declared.Refusal.{Refusal}
+use Rattle.bind.specs.Told.{startTold, told}
+use Rattle.bind.specs.declared.Bind.{Bind}
+use Rattle.bind.specs.declared.BindStart.{BindStart}
+use Rattle.bind.specs.declared.BindStart.the-variants as start
+use Rattle.bind.specs.declared.BindStep.{BindStep}
+use Rattle.bind.specs.declared.BindStep.the-variants as step
+use Rattle.bind.specs.declared.BindWalk.{BindWalk}
+use Rattle.bind.specs.declared.Registers.{Registers}
+
+abbrev walkOf : State Registers → BindWalk
+walkOf w = record { cursor = w .cursor; registers = w .registers }
+
+abbrev startOf : Begin Registers → BindStart
+startOf (begun w) = start.Begun (walkOf w)
+startOf (notBegun n) = start.Refused (refusalOf n)
+
+abbrev stepOf : Answer Registers Bind → BindStep
+stepOf (item x w) = step.Item x (walkOf w)
+stepOf (end w) = step.End (walkOf w)
+stepOf (refused n w) = step.Refused (refusalOf n) (walkOf w)
+
+start-back : (r : BindStart) → startOf (startTold r) ≡ r
+start-back (start.Begun w) = refl
+start-back (start.Refused e) = ap start.Refused (refusal-back e)
+
+step-back : (r : BindStep) → stepOf (told r) ≡ r
+step-back (step.Item x w) = refl
+step-back (step.End w) = refl
+step-back (step.Refused e w) = ap (λ (e : Refusal). step.Refused e w) (refusal-back e)
+
+pub start-one : (r q : BindStart) → startTold r ≡ startTold q → r ≡ q
+start-one = one-each startTold startOf start-back
+
+pub told-one : (r q : BindStep) → told r ≡ told q → r ≡ q
+told-one = one-each told stepOf step-back
