@@ -1,11 +1,18 @@
 -- Every worked example holds of the definitions, by computation. Assumes nothing.
 use mathlib.Core.Path.{_≡_, refl}
 use mathlib.Core.List.{map}
+use Rattle.cursor.specs.Motion.{placeAt, turnOf}
+use Rattle.listing.specs.Listing.{places, repeated, listed, listingOf, listing}
+use Rattle.listing.specs.Runs.{heard}
+use Rattle.listing.specs.Stream.{before, streamIn, streamAt}
 use Rattle.numbers.specs.Digits.{fromDigits}
 use Rattle.numbers.specs.Leb128.{ulebAt, slebAt}
+use Rattle.numbers.specs.Parts.{partOf}
 use Rattle.numbers.specs.Runs.{runTo}
-use Rattle.worked.specs.Examples.{examples, defined, documented}
+use Rattle.numbers.specs.Strings.{stringAt}
+use Rattle.operations.specs.Table.{thenNumber, thenSigned, thenText, rowAt, operationAt}
+use Rattle.worked.specs.Examples.{allNamed, examples, defined, documented}
 
 pub examples-hold : map defined examples ≡ map documented examples
-unfolding ulebAt slebAt runTo fromDigits
+unfolding ulebAt slebAt stringAt runTo fromDigits partOf thenNumber thenSigned thenText rowAt operationAt before streamIn streamAt placeAt turnOf places repeated listed listingOf listing heard allNamed
 examples-hold = refl

@@ -3,29 +3,64 @@ use Prim.Native.Nat.{ℕ}
 use mathlib.Core.List.{List, [], _∷_}
 use lib.IntN.{ℤ, pos, negℤ}
 use lib.ListN.{length}
+use Rattle.bind.specs.Binds.{binds}
+use Rattle.bind.specs.Binds as bind
+use Rattle.bind.specs.declared.Bind.{Bind}
+use Rattle.listing.specs.Listing.{listing}
+use Rattle.listing.specs.Runs.{Run, stops, fails, gives, heard}
 use Rattle.numbers.specs.declared.Number.{Number}
 use Rattle.numbers.specs.declared.Number.the-variants.{Value as UnsignedValue}
 use Rattle.numbers.specs.declared.leb128.Signed.{Signed}
 use Rattle.numbers.specs.declared.leb128.Signed.the-variants.{Value as SignedValue}
 use Rattle.numbers.specs.Leb128.{ulebAt, slebAt}
+use Rattle.numbers.specs.Parts.{partOf}
+use Rattle.rebase.specs.Rebases.{rebases}
+use Rattle.rebase.specs.Rebases as rebase
+use Rattle.rebase.specs.declared.Rebase.{Rebase}
+
+-- a place of a rebase stream
+abbrev pub place : (segment offset kind : ℕ) → Rebase
+place segment offset kind = record { segment = segment; offset = offset; kind = kind }
+
+-- a place of a bind stream, with the name itself
+pub data Symbol : Type 0 where
+  symbol : (segment offset kind : ℕ) → (library : ℤ) → (name : List ℕ) → (flags : ℕ) → (addend : ℤ) → Symbol
+
+abbrev pub named : List ℕ → Bind → Symbol
+named bytes b =
+    symbol (b .segment) (b .offset) (b .kind) (b .library) (partOf bytes (b .place) (b .length)) (b .flags) (b .addend)
+
+unfoldable pub allNamed : List ℕ → Run Bind → Run Symbol
+allNamed bytes stops = stops
+allNamed bytes (fails number) = fails number
+allNamed bytes (gives b rest) = gives (named bytes b) (allNamed bytes rest)
 
 pub data Example : Type 0 where
   uleb : ℕ → List ℕ → Example
   sleb : ℤ → List ℕ → Example
+  -- streams, of pointer size 8: what calls from a start on say
+  rebased : List ℕ → Run Rebase → Example
+  bound : List ℕ → Run Symbol → Example  -- plain
 
 pub data Meaning : Type 0 where
   unsigned : Number → Meaning
   signed : Signed → Meaning
+  places : Run Rebase → Meaning
+  symbols : Run Symbol → Meaning
 
 -- what the definitions say
 abbrev pub defined : Example → Meaning
 defined (uleb n bytes) = unsigned (ulebAt bytes 0)
 defined (sleb z bytes) = signed (slebAt bytes 0)
+defined (rebased bytes run) = places (heard (listing rebases 8 rebase.unset bytes))
+defined (bound bytes run) = symbols (allNamed bytes (heard (listing binds 8 bind.unset bytes)))
 
--- what the document says: this number, and the bytes are read to their end
+-- what the document says: of a number, that it is this one and the bytes are read to their end
 abbrev pub documented : Example → Meaning
 documented (uleb n bytes) = unsigned (UnsignedValue n (length bytes))
 documented (sleb z bytes) = signed (SignedValue z (length bytes))
+documented (rebased bytes run) = places run
+documented (bound bytes run) = symbols run
 
 abbrev minus : ℕ → ℤ
 minus n = negℤ (pos n)
@@ -41,4 +76,11 @@ examples =
     sleb (pos 127) (0xff ∷ 0x00 ∷ []) ∷
     sleb (minus 128) (0x80 ∷ 0x7f ∷ []) ∷
     sleb (minus 129) (0xff ∷ 0x7e ∷ []) ∷
+    -- S1 to S4, the cases of opcode streams that the scope gives
+    rebased (0x11 ∷ 0x22 ∷ 0x10 ∷ 0x53 ∷ 0x00 ∷ [])
+    (gives (place 2 16 1) (gives (place 2 24 1) (gives (place 2 32 1) stops))) ∷
+    bound (0x11 ∷ 0x40 ∷ 0x5f ∷ 0x61 ∷ 0x00 ∷ 0x51 ∷ 0x72 ∷ 0x08 ∷ 0x90 ∷ [])
+    (gives (symbol 2 8 1 (pos 1) (0x5f ∷ 0x61 ∷ []) 0 (pos 0)) stops) ∷
+    rebased (0x60 ∷ 0x00 ∷ []) stops ∷
+    rebased (0x51 ∷ []) (fails 5) ∷
     []
