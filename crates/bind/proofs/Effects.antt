@@ -10,9 +10,9 @@ use mir.Val.{SFits, toZ, ofZ}
 use mir.Facts.{toZ-pos, toZ-ofZ}
 use Rattle.cursor.specs.declared.Motion.the-variants.{Stays, Restarts, Repeats, Ends, Refuses}
 use Rattle.listing.specs.Machine.{Effect, _and_}
-use Rattle.operations.specs.declared.bind.BindOperation.{BindOperation}
-use Rattle.operations.specs.declared.bind.BindOperation.the-variants.{SetDylibSpecial, SetAddend, DoBindAddAddrScaled}
-use Rattle.bind.specs.Binds.{withLibrary, withAddend, ordinalOf, effectOf}
+use Rattle.operations.specs.declared.bind_operation.BindOperation.{BindOperation}
+use Rattle.operations.specs.declared.bind_operation.BindOperation.the-variants.{SetDylibSpecial, SetAddend, DoBindAddAddrScaled}
+use Rattle.bind.specs.Binds.{withLibrary, withAddend, ordinalEffect, effectOf}
 use Rattle.bind.specs.declared.Registers.{Registers}
 use Rattle.refusal.specs.declared.Refusal.the-variants.{OrdinalTooLarge}
 
@@ -35,10 +35,10 @@ module _ (size : ℕ) (g : Registers) {op : BindOperation} where
 pub ruleset effect-laws = (effect-of, effect-scaled, effect-special, effect-addend)
 
 module _ (ordinal : ℕ) (g : Registers) {x : Effect Registers} where
-  pub ordinal-large : 2147483647 < ordinal → x ≡ (g and Refuses OrdinalTooLarge) → x ≡ ordinalOf ordinal g
+  pub ordinal-large : 2147483647 < ordinal → x ≡ (g and Refuses OrdinalTooLarge) → x ≡ ordinalEffect ordinal g
   ordinal-large h e = e ∙ sym (rw (lt-leb ordinal 2147483647 h))
 
-  pub ordinal-set : ordinal ≤ 2147483647 → x ≡ (withLibrary (toZ w32 ordinal) g and Stays) → x ≡ ordinalOf ordinal g
+  pub ordinal-set : ordinal ≤ 2147483647 → x ≡ (withLibrary (toZ w32 ordinal) g and Stays) → x ≡ ordinalEffect ordinal g
   ordinal-set h e =
       let b : ordinal < 2 ^ 31 = omega arith in
       e ∙ ap (λ (l : ℤ). withLibrary l g and Stays) (toZ-pos w32 b) ∙ sym (rw (le-leb ordinal 2147483647 h))

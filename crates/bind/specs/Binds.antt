@@ -1,6 +1,6 @@
 -- Bind streams: how a walk begins, what each operation does, what a place lacks and what it gives.
 use Prim.Native.Nat.{ℕ, _*_}
-use mathlib.Core.Bool.{true, false, cond}
+use mathlib.Core.Bool.{Bool, true, false, cond}
 use lib.Dec.{leb}
 use lib.IntN.{ℤ, pos, negℤ}
 use Rattle.cursor.specs.declared.Lack.{Lack}
@@ -8,8 +8,8 @@ use Rattle.cursor.specs.declared.Lack.the-variants.{Nothing, Lacks}
 use Rattle.cursor.specs.declared.Motion.the-variants.{Stays, Adds, Seeks, Restarts, Repeats, Ends, Refuses}
 use Rattle.listing.specs.Machine.{Effect, _and_, Machine}
 use Rattle.operations.specs.Loader.{bindTable}
-use Rattle.operations.specs.declared.bind.BindOperation.{BindOperation}
-use Rattle.operations.specs.declared.bind.BindOperation.the-variants.{
+use Rattle.operations.specs.declared.bind_operation.BindOperation.{BindOperation}
+use Rattle.operations.specs.declared.bind_operation.BindOperation.the-variants.{
   Done,
   SetDylibOrdinal,
   SetDylibSpecial,
@@ -29,10 +29,10 @@ use Rattle.refusal.specs.declared.Refusal.the-variants.{OrdinalTooLarge, NoSegm
 
 -- ---- the registers
 
-abbrev pub unset : Registers
-unset =
+abbrev pub unset : (lazy : Bool) → Registers
+unset lazy =
     record {
-      lazy = false;
+      lazy = lazy;
       segmented = false;
       typed = false;
       sourced = false;
@@ -131,43 +131,29 @@ withSegment index g =
       addend = g .addend;
     }
 
-abbrev pub asLazy : Registers → Registers
-asLazy g =
-    record {
-      lazy = true;
-      segmented = g .segmented;
-      typed = g .typed;
-      sourced = g .sourced;
-      named = g .named;
-      segment = g .segment;
-      kind = g .kind;
-      library = g .library;
-      place = g .place;
-      length = g .length;
-      flags = g .flags;
-      addend = g .addend;
-    }
-
 -- ---- how a walk begins: plain with nothing set, weak with type 1 and library -3, lazy with type 1
 
+abbrev pub plainly : Registers
+plainly = unset false
+
 abbrev pub weakly : Registers
-weakly = withLibrary (negℤ (pos 3)) (withType 1 unset)
+weakly = withLibrary (negℤ (pos 3)) (withType 1 plainly)
 
 abbrev pub lazily : Registers
-lazily = asLazy (withType 1 unset)
+lazily = withType 1 (unset true)
 
 -- ---- what an operation does
 
 -- in a lazy walk Done puts everything back to a lazy start
-abbrev pub doneOf : Registers → Effect Registers
-doneOf g = cond (g .lazy) (lazily and Restarts) (g and Ends)
+abbrev pub doneEffect : Registers → Effect Registers
+doneEffect g = cond (g .lazy) (lazily and Restarts) (g and Ends)
 
-abbrev pub ordinalOf : (ordinal : ℕ) → Registers → Effect Registers
-ordinalOf ordinal g = cond (leb ordinal 2147483647) (withLibrary (pos ordinal) g and Stays) (g and Refuses OrdinalTooLarge)
+abbrev pub ordinalEffect : (ordinal : ℕ) → Registers → Effect Registers
+ordinalEffect ordinal g = cond (leb ordinal 2147483647) (withLibrary (pos ordinal) g and Stays) (g and Refuses OrdinalTooLarge)
 
 abbrev pub effectOf : (size : ℕ) → BindOperation → Registers → Effect Registers
-effectOf size Done g = doneOf g
-effectOf size (SetDylibOrdinal ordinal) g = ordinalOf ordinal g
+effectOf size Done g = doneEffect g
+effectOf size (SetDylibOrdinal ordinal) g = ordinalEffect ordinal g
 effectOf size (SetDylibSpecial ordinal) g = withLibrary ordinal g and Stays
 effectOf size (SetSymbol flags place length) g = withSymbol flags place length g and Stays
 effectOf size (SetType kind) g = withType kind g and Stays

@@ -1,13 +1,11 @@
-// The walk over a bind stream: a state goes in, and a place that the loader binds to a symbol or the
-// end comes out, with the next state.
+// The walk over a bind stream: a state goes in, and a place that the loader binds to a symbol, the end
+// or a refusal comes out, with the next state.
 ghost use mathlib.Core.Path.{_≡_};
-ghost use Prim.Native.Nat.{_≤_};
-ghost use lib.IntN.{pos};
 ghost use Rattle.listing.specs.Call.{begin, refusal, due, read, call};
 ghost use Rattle.listing.specs.Machine.{_and_};
 ghost use Rattle.listing.specs.Stream.{streamAt};
 ghost use Rattle.numbers.specs.Parts.{partAt};
-ghost use Rattle.bind.specs.Binds.{unset, weakly, lazily, doneOf, ordinalOf, effectOf, lackOf, itemOf, binds};
+ghost use Rattle.bind.specs.Binds.{unset, plainly, weakly, lazily, doneEffect, ordinalEffect, effectOf, lackOf, itemOf, binds};
 ghost use Rattle.bind.specs.Told.{view, startTold, told, effectTold};
 use cursor::Cursor;
 use cursor::Lack;
@@ -16,8 +14,8 @@ use cursor::Moved;
 use cursor::Standing;
 use cursor::Start;
 use numbers::parts::part;
-use operations::bind::BindOperation;
-use operations::bind::BindParse;
+use operations::bind_operation::BindOperation;
+use operations::bind_operation::BindParse;
 use refusal::Refusal;
 
 // A place that the loader binds: its segment, its offset there, its type, the library that the symbol
@@ -33,7 +31,8 @@ pub struct Bind {
     pub addend: i64,
 }
 
-// What operations have set, but for the offset; and whether the walk is a lazy one.
+// Whether the walk is a lazy one; whether segment, type, library (`sourced`) and symbol (`named`) are
+// set; and what operations have set, but for the offset.
 pub struct Registers {
     pub lazy: bool,
     pub segmented: bool,
@@ -81,11 +80,11 @@ impl Bind {
 
 impl Registers {
     // Nothing is set.
-    fn unset() -> Registers
-        ensures { λ r. ⌜ r ≡ unset ⌝ }
+    fn unset(lazy: bool) -> Registers
+        ensures { λ r. ⌜ r ≡ unset lazy ⌝ }
     {
         Registers {
-            lazy: false,
+            lazy,
             segmented: false,
             typed: false,
             sourced: false,
@@ -104,8 +103,7 @@ impl Registers {
     fn lazily() -> Registers
         ensures { λ r. ⌜ r ≡ lazily ⌝ }
     {
-        let mut g = Registers::unset();
-        g.lazy = true;
+        let mut g = Registers::unset(true);
         g.typed = true;
         g.kind = BindWalk::TYPE_POINTER;
         g
@@ -118,7 +116,7 @@ impl Registers {
         let mut g = self;
         match op {
             BindOperation::Done => self.done(),
-            BindOperation::SetDylibOrdinal { ordinal } => self.from_ordinal(ordinal),
+            BindOperation::SetDylibOrdinal { ordinal } => self.set_ordinal(ordinal),
             BindOperation::SetDylibSpecial { ordinal } => {
                 g.sourced = true;
                 g.library = ordinal;
@@ -163,7 +161,7 @@ impl Registers {
 
     // What Done does.
     fn done(self) -> BindEffect
-        ensures { λ r. ⌜ effectTold r ≡ doneOf self ⌝ }
+        ensures { λ r. ⌜ effectTold r ≡ doneEffect self ⌝ }
     {
         if self.lazy {
             let g = Registers::lazily();
@@ -174,8 +172,8 @@ impl Registers {
     }
 
     // What setting a library's ordinal does.
-    fn from_ordinal(self, ordinal: u64) -> BindEffect
-        ensures { λ r. ⌜ effectTold r ≡ ordinalOf ordinal self ⌝ }
+    fn set_ordinal(self, ordinal: u64) -> BindEffect
+        ensures { λ r. ⌜ effectTold r ≡ ordinalEffect ordinal self ⌝ }
     {
         if 2147483647 < ordinal {
             return self.and(Motion::Refuses(Refusal::OrdinalTooLarge));
@@ -242,16 +240,16 @@ impl BindWalk {
 
     // A walk over a stream of plain binds, of a pointer size.
     pub fn plain(size: u8) -> BindStart
-        ensures { λ r. ⌜ startTold r ≡ begin size unset ⌝ }
+        ensures { λ r. ⌜ startTold r ≡ begin size plainly ⌝ }
     {
-        BindWalk::start(size, Registers::unset())
+        BindWalk::start(size, Registers::unset(false))
     }
 
     // A walk over a stream of weak binds: type and library are set.
     pub fn weak(size: u8) -> BindStart
         ensures { λ r. ⌜ startTold r ≡ begin size weakly ⌝ }
     {
-        let mut g = Registers::unset();
+        let mut g = Registers::unset(false);
         g.typed = true;
         g.kind = BindWalk::TYPE_POINTER;
         g.sourced = true;
@@ -275,7 +273,7 @@ impl BindWalk {
         }
     }
 
-    // The next place, or the end. Each call lends the same stream.
+    // The next place, the end or a refusal, and the next state, for any state and any bytes.
     pub fn step(self, s: &[u8]) -> BindStep
         ensures { λ r. ⌜ told r ≡ call binds (now (s .entry)) (view self) ⌝ }
     {

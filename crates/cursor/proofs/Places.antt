@@ -6,7 +6,7 @@ use Rattle.cursor.specs.Motion.{placeAt, turnOf}
 use Rattle.cursor.specs.declared.Motion.{Motion}
 use Rattle.cursor.specs.declared.Motion.the-variants.{Stays, Adds, Seeks, Restarts, Repeats, Ends, Refuses}
 use Rattle.cursor.specs.declared.Turn.{Turn}
-use Rattle.cursor.specs.declared.Turn.the-variants.{On, Anew, Yields, Done, Stop}
+use Rattle.cursor.specs.declared.Turn.the-variants.{On, Anew, Due, End, Refused}
 
 module _ (offset advance : ℕ) where
   pub place-first : offset < 2 ^ 64 → placeAt offset advance 0 ≡ offset
@@ -24,9 +24,9 @@ module _ (offset advance : ℕ) where
 abbrev pub Bounded : Turn → Type 0
 Bounded (On offset) = offset < 2 ^ 64
 Bounded Anew = Unit {0}
-Bounded (Yields left advance) = Unit {0}
-Bounded Done = Unit {0}
-Bounded (Stop e) = Unit {0}
+Bounded (Due left advance) = Unit {0}
+Bounded End = Unit {0}
+Bounded (Refused e) = Unit {0}
 
 pub bounded : (size offset : ℕ) → offset < 2 ^ 64 → (m : Motion) → Bounded (turnOf size offset m)
 unfolding turnOf

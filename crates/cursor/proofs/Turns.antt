@@ -17,13 +17,13 @@ use Rattle.cursor.specs.declared.Standing.the-variants as standing
 use Rattle.cursor.specs.declared.Start.{Start}
 use Rattle.cursor.specs.declared.Start.the-variants as start
 use Rattle.cursor.specs.declared.Turn.{Turn}
-use Rattle.cursor.specs.declared.Turn.the-variants.{On, Yields}
+use Rattle.cursor.specs.declared.Turn.the-variants.{On, Due}
 use Rattle.refusal.specs.declared.Refusal.the-variants.{PointerSize}
 
 -- ---- turns
 
 module _ (size offset : ℕ) where
-  some : (count addition : ℕ) → (count ≡ 0 → ⊥) → Yields (count - 1) (advanceOf size addition) ≡ turnOf size offset (Repeats count addition)
+  some : (count addition : ℕ) → (count ≡ 0 → ⊥) → Due (count - 1) (advanceOf size addition) ≡ turnOf size offset (Repeats count addition)
   unfolding turnOf
   some zero addition h = absurd (h refl)
   some (suc left) addition h = let e : suc left - 1 ≡ left = omega arith in rw e
@@ -46,7 +46,7 @@ module _ (size offset : ℕ) where
     turn-none e h = rw (e, h)
 
     pub turn-some : {count addition advance : ℕ} → m ≡ Repeats count addition → (count ≡ 0 → ⊥) → advance ≡ advanceOf size addition →
-        Yields (count - 1) advance ≡ turnOf size offset m
+        Due (count - 1) advance ≡ turnOf size offset m
     turn-some {count} {addition} e h f = rw (e, f) (some count addition h)
 
 pub ruleset turn-laws = (turn-of, turn-adds, turn-seeks, turn-none, turn-some)
@@ -106,7 +106,7 @@ module _ (c : Cursor) (next : ℕ) (m : Motion) {t : Turn} (e : t ≡ turnOf (c 
   pub moves : {u : Turn} {x : Moved} → t ≡ u → x ≡ movedBy c next u → x ≡ movedOf c next m
   moves f g = g ∙ ap (movedBy c next) (sym f ∙ e)
 
-  pub moves-due : {left advance : ℕ} {after : Cursor} → t ≡ Yields left advance → after ≡ behindPlace (readTo next c (c .offset)) left advance →
+  pub moves-due : {left advance : ℕ} {after : Cursor} → t ≡ Due left advance → after ≡ behindPlace (readTo next c (c .offset)) left advance →
       moved.Due after ≡ movedOf c next m
   unfolding movedBy
   moves-due f g = moves f (ap moved.Due g)

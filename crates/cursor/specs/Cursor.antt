@@ -65,7 +65,7 @@ markedEnded c =
       ended = true;
     }
 
--- ---- what an operation makes of the cursor, where the operation behind it stands at `next`
+-- ---- what an operation makes of the cursor; `next` is the place behind the operation
 
 abbrev pub readTo : (next : ℕ) → Cursor → (offset : ℕ) → Cursor
 readTo next c offset =
@@ -80,22 +80,14 @@ readTo next c offset =
 
 -- as at a start, but for the read place
 abbrev pub anew : (next : ℕ) → Cursor → Cursor
-anew next c =
-    record {
-      at = next;
-      size = c .size;
-      remaining = 0;
-      advance = 0;
-      offset = 0;
-      ended = c .ended;
-    }
+anew next c = readTo next (atStart (c .size)) 0
 
 unfoldable pub movedBy : Cursor → (next : ℕ) → Turn → Moved
 movedBy c next (turn.On offset) = moved.On (readTo next c offset)
 movedBy c next turn.Anew = moved.On (anew next c)
-movedBy c next (turn.Yields left advance) = moved.Due (behindPlace (readTo next c (c .offset)) left advance)
-movedBy c next turn.Done = moved.End (readTo next c (c .offset))
-movedBy c next (turn.Stop e) = moved.Refused e
+movedBy c next (turn.Due left advance) = moved.Due (behindPlace (readTo next c (c .offset)) left advance)
+movedBy c next turn.End = moved.End (readTo next c (c .offset))
+movedBy c next (turn.Refused e) = moved.Refused e
 
 abbrev pub movedOf : Cursor → (next : ℕ) → Motion → Moved
 movedOf c next m = movedBy c next (turnOf (c .size) (c .offset) m)

@@ -23,9 +23,9 @@ pub enum Motion {
 pub enum Turn {
     On(u64),
     Anew,
-    Yields(u64, u64),
-    Done,
-    Stop(Refusal),
+    Due(u64, u64),
+    End,
+    Refused(Refusal),
 }
 
 pub struct Cursor {
@@ -79,10 +79,10 @@ impl Motion {
                     return Turn::On(offset);
                 }
                 let advance = std::num::wrapping_add_u64(size as u64, addition);
-                Turn::Yields(count - 1, advance)
+                Turn::Due(count - 1, advance)
             }
-            Motion::Ends => Turn::Done,
-            Motion::Refuses(e) => Turn::Stop(e),
+            Motion::Ends => Turn::End,
+            Motion::Refuses(e) => Turn::Refused(e),
         }
     }
 }
@@ -125,7 +125,7 @@ impl Cursor {
         Standing::OutOfRange
     }
 
-    // What an operation makes of the cursor, where the operation behind it stands at `next`.
+    // What an operation makes of the cursor. The place behind the operation is `next`.
     pub fn moved(self, next: usize, motion: Motion) -> Moved
         ensures { λ r. ⌜ r ≡ movedOf self next motion ⌝ }
     {
@@ -140,11 +140,12 @@ impl Cursor {
                 c.remaining = 0;
                 c.advance = 0;
                 c.offset = 0;
+                c.ended = false;
                 Moved::On(c)
             }
-            Turn::Yields(left, advance) => Moved::Due(c.behind_place(left, advance)),
-            Turn::Done => Moved::End(c),
-            Turn::Stop(e) => Moved::Refused(e),
+            Turn::Due(left, advance) => Moved::Due(c.behind_place(left, advance)),
+            Turn::End => Moved::End(c),
+            Turn::Refused(e) => Moved::Refused(e),
         }
     }
 

@@ -13,7 +13,7 @@ use Rattle.cursor.specs.declared.Lack.{Lack}
 use Rattle.cursor.specs.declared.Lack.the-variants.{Nothing, Lacks}
 use Rattle.cursor.specs.declared.Start.the-variants as start
 use Rattle.cursor.specs.declared.Turn.{Turn}
-use Rattle.cursor.specs.declared.Turn.the-variants.{On, Anew, Yields, Done, Stop}
+use Rattle.cursor.specs.declared.Turn.the-variants.{On, Anew, Due, End, Refused}
 use Rattle.listing.specs.Call.{State, state, begun, beginFrom, begin}
 use Rattle.listing.specs.Listing.{Listing, places, repeated, listed, listingOf, listing}
 use Rattle.listing.specs.Machine.{Effect, Machine}
@@ -44,11 +44,11 @@ module _ (M : Machine) where
   unfolding heard listed runTurn
   heard-turn p k g o b rest r h (On to) c = h g to c
   heard-turn p k g o b rest r h Anew c = h g 0 (omega arith)
-  heard-turn p k g o b rest r h (Yields left a) c =
+  heard-turn p k g o b rest r h (Due left a) c =
       let f = placeAt o a (suc left) in
       heard-due p g o a (suc left) b (rest g f) (r g) (h g f (place-below o a (suc left))) (M .lack g)
-  heard-turn p k g o b rest r h Done c = refl
-  heard-turn p k g o b rest r h (Stop e) c = refl
+  heard-turn p k g o b rest r h End c = refl
+  heard-turn p k g o b rest r h (Refused e) c = refl
 
   heard-ops : (size : ℕ) (xs : Stream (M .Op)) (k : ℕ) (g : M .Reg) (o : ℕ) → o < 2 ^ 64 → heard (listingOf M size xs k g o) ≡ runOps M size xs g o
   unfolding heard listingOf runOps

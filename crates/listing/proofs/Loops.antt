@@ -14,7 +14,7 @@ use Rattle.cursor.specs.declared.Moved.the-variants as moved
 use Rattle.cursor.specs.declared.Standing.{Standing}
 use Rattle.cursor.specs.declared.Start.{Start}
 use Rattle.cursor.specs.declared.Turn.{Turn}
-use Rattle.cursor.specs.declared.Turn.the-variants.{On, Anew, Yields, Done, Stop}
+use Rattle.cursor.specs.declared.Turn.the-variants.{On, Anew, Due, End, Refused}
 use Rattle.listing.specs.Call.{State, state, Begin, beginFrom, begin, Answer, due, answered, read, called, call}
 use Rattle.listing.specs.Machine.{Effect, _and_, Machine}
 use Rattle.listing.specs.Stream.{Stream, before, streamAt}
@@ -57,9 +57,9 @@ if-on : (c : Cursor) (next : ℕ) (t : Turn) → IfOn next (movedBy c next t)
 unfolding movedBy
 if-on c next (On to) = refl
 if-on c next Anew = refl
-if-on c next (Yields left advance) = tt
-if-on c next Done = tt
-if-on c next (Stop e) = tt
+if-on c next (Due left advance) = tt
+if-on c next End = tt
+if-on c next (Refused e) = tt
 
 module _ (M : Machine) {s : List ℕ} {given : State (M .Reg)} {a : Answer (M .Reg) (M .Item)} {c : Cursor} {g : M .Reg}
     (r : Reading M s given a c g) {x : Parsed (M .Op)} (p : x ≡ operationAt (M .table) s (c .at)) where

@@ -15,19 +15,19 @@ use Rattle.cursor.specs.declared.Motion.{Motion}
 use Rattle.cursor.specs.declared.Motion.the-variants.{Stays, Adds, Seeks, Restarts, Repeats, Ends, Refuses}
 use Rattle.cursor.specs.declared.Standing.the-variants as standing
 use Rattle.cursor.specs.declared.Turn.{Turn}
-use Rattle.cursor.specs.declared.Turn.the-variants.{On, Anew, Yields, Done, Stop}
+use Rattle.cursor.specs.declared.Turn.the-variants.{On, Anew, Due, End, Refused}
 use Rattle.listing.specs.Call.{State, state, Answer, item, end, refused, due, answered, read, called, call}
-use Rattle.listing.specs.Machine.{Effect, Machine}
+use Rattle.listing.specs.Machine.{Effect, _and_, Machine}
 use Rattle.listing.specs.Runs.{Walks, heard}
 use Rattle.listing.specs.Stream.{Stream, out, bad, one, streamAt}
 use Rattle.listing.proofs.Joined.{listingFrom, reads-on}
 use Rattle.listing.proofs.Kept.{out-of-range}
 use Rattle.listing.proofs.Runs.{live, InRange, in-range, call-reads, call-due}
-use Rattle.listing.proofs.Streams.{Behind, behind}
+use Rattle.listing.proofs.Streams.{Behind, behind, is-out}
 use Rattle.operations.specs.Table.{operation, operationAt}
 
 -- only one motion says the end
-is-ends : (size o : ℕ) (m : Motion) → turnOf size o m ≡ Done → m ≡ Ends
+is-ends : (size o : ℕ) (m : Motion) → turnOf size o m ≡ End → m ≡ Ends
 unfolding turnOf
 is-ends size o Stays e = cc
 is-ends size o (Adds n) e = cc
@@ -39,104 +39,107 @@ is-ends size o Ends e = refl
 is-ends size o (Refuses r) e = cc
 
 module _ (M : Machine) (s : List ℕ) where
-  -- why End was said in a state that has read up to a place
-  pub data Why (size at : ℕ) : Type 0 where
-    no-bytes : streamAt M s at ≡ out → Why size at
-    behind-done : (position : ℕ) (op : M .Op) (g : M .Reg) → operationAt (M .table) s position ≡ operation op at → M .effect size op g .motion ≡ Ends → Why size at
+  -- why End was said in a state that has read from a place on: no bytes are left, or it stands behind an operation that says the end
+  pub data Why (from : ℕ) (v : State (M .Reg)) : Type 0 where
+    no-bytes : v .cursor .at ≡ length s → Why from v
+    behind-done : (position : ℕ) (op : M .Op) (g : M .Reg) → from ≤ position → operationAt (M .table) s position ≡ operation op (v .cursor .at) →
+        M .effect (v .cursor .size) op g ≡ (v .registers and Ends) → Why from v
 
-  record Stopped (size : ℕ) (v : State (M .Reg)) : Type 0 where
-    at : ℕ
+  -- the state is one that reads on from a place
+  record Stopped (from size : ℕ) (v : State (M .Reg)) : Type 0 where
     advance : ℕ
-    offset : ℕ
-    registers : M .Reg
-    is : v ≡ state (live size at 0 advance offset) registers
-    inside : at ≤ length s
-    below : offset < 2 ^ 64
-    why : Why size at
+    is : v .cursor ≡ live size (v .cursor .at) 0 advance (v .cursor .offset)
+    inside : v .cursor .at ≤ length s
+    below : v .cursor .offset < 2 ^ 64
+    why : Why from v
 
-  abbrev IfEnd : ℕ → Answer (M .Reg) (M .Item) → Type 0
-  IfEnd size (item x v) = Unit {0}
-  IfEnd size (end v) = Stopped size v
-  IfEnd size (refused e v) = Unit {0}
+  abbrev IfEnd : (from size : ℕ) → Answer (M .Reg) (M .Item) → Type 0
+  IfEnd from size (item x v) = Unit {0}
+  IfEnd from size (end v) = Stopped from size v
+  IfEnd from size (refused e v) = Unit {0}
 
-  module _ (w : State (M .Reg)) (size : ℕ) where
-    end-due : (o : ℕ) (v : State (M .Reg)) (l : Lack) → IfEnd size (due M w o v l)
+  module _ (w : State (M .Reg)) (from size : ℕ) where
+    end-due : (o : ℕ) (v : State (M .Reg)) (l : Lack) → IfEnd from size (due M w o v l)
     unfolding due
     end-due o v Nothing = tt
     end-due o v (Lacks e) = tt
 
     abbrev Reads : Stream (M .Op) → ℕ → Type 0
-    Reads xs at = (a o : ℕ) (g : M .Reg) → o < 2 ^ 64 → IfEnd size (read M w xs (state (live size at 0 a o) g))
+    Reads xs at = (a o : ℕ) (g : M .Reg) → o < 2 ^ 64 → IfEnd from size (read M w xs (state (live size at 0 a o) g))
 
-    module _ (position at a o : ℕ) (op : M .Op) (f g : M .Reg) (rest : Stream (M .Op)) (b : Behind M s position op at rest) (h : Reads rest at) (c : o < 2 ^ 64) where
-      end-turn : (t : Turn) → Bounded t → (t ≡ Done → M .effect size op f .motion ≡ Ends) →
-          IfEnd size (answered M w o g (read M w rest) (movedBy (live size position 0 a o) at t))
+    module _ (at a o : ℕ) (g : M .Reg) (before : from ≤ at) (below : o < 2 ^ 64) {position next : ℕ} {op : M .Op} {rest : Stream (M .Op)}
+        (b : Behind M s at position op next rest) (h : Reads rest next) where
+      abbrev did : Effect (M .Reg)
+      did = M .effect size op g
+
+      end-turn : (t : Turn) → Bounded t → (t ≡ End → did .motion ≡ Ends) →
+          IfEnd from size (answered M w o (did .registers) (read M w rest) (movedBy (live size at 0 a o) next t))
       unfolding answered movedBy
-      end-turn (On to) d e = h a to g d
-      end-turn Anew d e = h 0 0 g (omega arith)
-      end-turn (Yields left n) d e = end-due o _ (M .lack g)
-      end-turn Done d e =
+      end-turn (On to) c e = h a to (did .registers) c
+      end-turn Anew c e = h 0 0 (did .registers) (omega arith)
+      end-turn (Due left n) c e = end-due o _ (M .lack (did .registers))
+      end-turn End c e =
           record {
-            at = at;
             advance = a;
-            offset = o;
-            registers = g;
             is = refl;
             inside = b .inside;
-            below = c;
-            why = behind-done position op f (b .parsed) (e refl);
+            below = below;
+            why = behind-done at op g before (b .parsed) (ap (λ (m : Motion). did .registers and m) (e refl));
           }
-      end-turn (Stop r) d e = tt
+      end-turn (Refused r) c e = tt
 
-    end-read : (xs : Stream (M .Op)) (at : ℕ) → streamAt M s at ≡ xs → at ≤ length s → Reads xs at
+    end-read : (xs : Stream (M .Op)) (at : ℕ) → streamAt M s at ≡ xs → at ≤ length s → from ≤ at → Reads xs at
     unfolding read
-    end-read out at same inside a o g c =
+    end-read out at same inside before a o g below =
         record {
-          at = at;
           advance = a;
-          offset = o;
-          registers = g;
           is = refl;
           inside = inside;
-          below = c;
-          why = no-bytes same;
+          below = below;
+          why = no-bytes (let l = is-out M s at same in omega arith);
         }
-    end-read (bad r position) at same inside a o g c = tt
-    end-read (one position op next rest) at same inside a o g c =
+    end-read (bad r position) at same inside before a o g below = tt
+    end-read (one position op next rest) at same inside before a o g below =
         let b = behind M s at same in
-        let did = M .effect size op g in
-        end-turn at next a o op g (did .registers) rest b (end-read rest next (b .same) (b .inside)) c
-        (turnOf size o (did .motion)) (bounded size o c (did .motion)) (is-ends size o (did .motion))
+        let m = M .effect size op g .motion in
+        end-turn at a o g before below b (end-read rest next (b .same) (b .inside) (omega (arith, b .beyond)))
+        (turnOf size o m) (bounded size o below m) (is-ends size o m)
 
-  -- the state stands there, and calls from it on say what the operations from there on list
-  pub record Resumed (v : State (M .Reg)) : Type 0 where
-    pub why : Why (v .cursor .size) (v .cursor .at)
+  -- and calls from that state on say what the operations from there on list
+  pub record Resumed (from : ℕ) (v : State (M .Reg)) : Type 0 where
+    pub why : Why from v
     pub goes-on : Walks M s v (heard (listingFrom M s v))
 
   module _ (w : State (M .Reg)) (e : w .cursor .ended ≡ false) (c : w .cursor .offset < 2 ^ 64) where
-    end-live : InRange (w .cursor) (length s) → (n : ℕ) → w .cursor .remaining ≡ n → IfEnd (w .cursor .size) (call M s w)
+    abbrev IfMyEnd : Answer (M .Reg) (M .Item) → Type 0
+    IfMyEnd = IfEnd (w .cursor .at) (w .cursor .size)
+
+    end-live : InRange (w .cursor) (length s) → (n : ℕ) → w .cursor .remaining ≡ n → IfMyEnd (call M s w)
     end-live r zero k =
-        subst (IfEnd (w .cursor .size)) (sym (call-reads M s w r e k))
-        (end-read w (w .cursor .size) (streamAt M s (w .cursor .at)) (w .cursor .at) refl (r .inside) (w .cursor .advance) (w .cursor .offset) (w .registers) c)
+        let f = w .cursor in
+        subst IfMyEnd (sym (call-reads M s w r e k))
+        (end-read w (f .at) (f .size) (streamAt M s (f .at)) (f .at) refl (r .inside) (omega arith) (f .advance) (f .offset) (w .registers) c)
     end-live r (suc n) k =
-        subst (IfEnd (w .cursor .size)) (sym (call-due M s w r e k))
-        (end-due w (w .cursor .size) (w .cursor .offset) _ (M .lack (w .registers)))
+        subst IfMyEnd (sym (call-due M s w r e k))
+        (end-due w (w .cursor .at) (w .cursor .size) (w .cursor .offset) _ (M .lack (w .registers)))
 
-    resumes : isPointerSize (w .cursor .size) ≡ true → {v : State (M .Reg)} → Stopped (w .cursor .size) v → Resumed v
-    resumes z p =
-        subst Resumed (sym (p .is))
-        (record {
+    resumes : isPointerSize (w .cursor .size) ≡ true → (v : State (M .Reg)) → Stopped (w .cursor .at) (w .cursor .size) v → Resumed (w .cursor .at) v
+    resumes z v p =
+        record {
           why = p .why;
-          goes-on = reads-on M s (w .cursor .size) (p .at) (p .advance) (p .offset) (p .registers) (record { inside = p .inside; sized = z }) (p .below);
-        })
+          goes-on =
+              subst (λ (d : Cursor). Walks M s (state d (v .registers)) (heard (listingFrom M s (state d (v .registers))))) (sym (p .is))
+              (reads-on M s (w .cursor .size) (v .cursor .at) (p .advance) (v .cursor .offset) (v .registers) (record { inside = p .inside; sized = z }) (p .below));
+        }
 
-    pub resumed : {v : State (M .Reg)} → call M s w ≡ end v → Resumed v
+    -- after End a call goes on behind what this one read
+    pub resumed : {v : State (M .Reg)} → call M s w ≡ end v → Resumed (w .cursor .at) v
     resumed {v} q = by-range (inRange (w .cursor) (length s)) refl
       where
-        by-range : (b : Bool) → inRange (w .cursor) (length s) ≡ b → Resumed v
+        by-range : (b : Bool) → inRange (w .cursor) (length s) ≡ b → Resumed (w .cursor .at) v
         by-range true r =
             let i = in-range (w .cursor) (length s) r in
-            resumes (i .sized) (subst (IfEnd (w .cursor .size)) q (end-live i (w .cursor .remaining) refl))
+            resumes (i .sized) v (subst IfMyEnd q (end-live i (w .cursor .remaining) refl))
         by-range false r =
             let x : call M s w ≡ refused 19 w = out-of-range M w s r in
             let z : _≡_ {A = ℕ} 0 1 = cc in

@@ -16,7 +16,7 @@ use Rattle.cursor.specs.declared.Lack.the-variants.{Nothing, Lacks}
 use Rattle.cursor.specs.declared.Standing.{Standing}
 use Rattle.cursor.specs.declared.Standing.the-variants as standing
 use Rattle.cursor.specs.declared.Turn.{Turn}
-use Rattle.cursor.specs.declared.Turn.the-variants.{On, Anew, Yields, Done, Stop}
+use Rattle.cursor.specs.declared.Turn.the-variants.{On, Anew, Due, End, Refused}
 use Rattle.listing.specs.Call.{State, state, Answer, item, end, refused, due, answered, read, called, call}
 use Rattle.listing.specs.Machine.{Effect, Machine}
 use Rattle.listing.specs.Runs.{Run, stops, fails, gives, Walks, at-end, at-refusal, at-item}
@@ -68,9 +68,9 @@ module _ (M : Machine) where
   unfoldable pub runTurn : M .Reg → (offset : ℕ) → (M .Reg → ℕ → Run (M .Item)) → Turn → Run (M .Item)
   runTurn g o rest (On to) = rest g to
   runTurn g o rest Anew = rest g 0
-  runTurn g o rest (Yields left a) = runDue g o a (suc left) (rest g) (M .lack g)
-  runTurn g o rest Done = stops
-  runTurn g o rest (Stop e) = fails (numberOf e)
+  runTurn g o rest (Due left a) = runDue g o a (suc left) (rest g) (M .lack g)
+  runTurn g o rest End = stops
+  runTurn g o rest (Refused e) = fails (numberOf e)
 
   unfoldable pub runOps : (size : ℕ) → Stream (M .Op) → M .Reg → (offset : ℕ) → Run (M .Item)
   runOps size out g o = stops
@@ -127,9 +127,9 @@ module _ (M : Machine) (s : List ℕ) (size : ℕ) (sized : isPointerSize size �
     unfolding runTurn answered movedBy
     walks-turn w place a o (On to) q = h w a to g q
     walks-turn w place a o Anew q = h w 0 0 g q
-    walks-turn w place a o (Yields left b) q = walks-due w o left b (M .lack g) refl q
-    walks-turn w place a o Done q = at-end q
-    walks-turn w place a o (Stop e) q = at-refusal q
+    walks-turn w place a o (Due left b) q = walks-due w o left b (M .lack g) refl q
+    walks-turn w place a o End q = at-end q
+    walks-turn w place a o (Refused e) q = at-refusal q
 
   walks-read : (xs : Stream (M .Op)) (at : ℕ) → streamAt M s at ≡ xs → From at xs
   unfolding runOps read

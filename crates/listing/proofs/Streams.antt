@@ -1,17 +1,15 @@
--- The operations of a stream from a place on: none, one that is refused, or one and those from the place behind it. Assumes nothing.
+-- The operations of a stream from a place on: none, one that is refused, or one and those from the place behind it. Assumes noBytes.
 use Prim.Native.Nat.{ℕ, zero, suc, _+_, _≤_, _<_}
 use mathlib.Core.Path.{_≡_, refl, ap, sym, _∙_, subst}
 use mathlib.Core.List.{List}
-use native.Mathlib.Decide.{decLt}
 use native.Mathlib.Omega.{arith}
 use lib.ListN.{length}
 use Rattle.listing.specs.Machine.{Machine}
 use Rattle.listing.specs.Stream.{Stream, out, bad, one, before, streamIn, streamAt}
 use Rattle.numbers.proofs.Laws.{Within}
-use Rattle.operations.proofs.Laws.{operation-read}
+use Rattle.operations.proofs.Laws.{operation-read, no-bytes-left}
 use Rattle.operations.proofs.Rows.{no-byte}
-use Rattle.operations.specs.Table.{Parsed, operation, faulty, nothing, operationAt}
-use Rattle.refusal.specs.declared.Refusal.{Refusal}
+use Rattle.operations.specs.Table.{Parsed, operation, faulty, noBytes, operationAt}
 
 module _ (M : Machine) (s : List ℕ) where
   -- what stands at a place
@@ -27,7 +25,7 @@ module _ (M : Machine) (s : List ℕ) where
   unfolding before
   before-same at r q (operation op next) e h = ap (one at op next) (h next (ends-within at e .beyond))
   before-same at r q (faulty n) e h = refl
-  before-same at r q nothing e h = refl
+  before-same at r q noBytes e h = refl
 
   -- it does not matter how many operations are allowed, where they are enough
   enough : (m n at : ℕ) → length s ≤ at + m → length s ≤ at + n → streamIn M m s at ≡ streamIn M n s at
@@ -44,26 +42,38 @@ module _ (M : Machine) (s : List ℕ) where
     unfolding streamIn streamAt
     stream-by e = enough (length s) (suc (length s)) at (omega arith) (omega arith) ∙ rw e
 
-  -- the operation at a place; those behind it are those of the place behind it
-  pub record Behind (at : ℕ) (op : M .Op) (next : ℕ) (rest : Stream (M .Op)) : Type 0 where
+  -- an operation at a place; those behind it are those of the place behind it
+  pub record Behind (at position : ℕ) (op : M .Op) (next : ℕ) (rest : Stream (M .Op)) : Type 0 where
+    pub here : position ≡ at
     pub parsed : there at ≡ operation op next
-    pub same : streamAt M s next ≡ rest
+    pub beyond : at < next
     pub inside : next ≤ length s
+    pub same : streamAt M s next ≡ rest
 
-  pub behind : (at : ℕ) {position next : ℕ} {op : M .Op} {rest : Stream (M .Op)} → streamAt M s at ≡ one position op next rest → Behind at op next rest
+  abbrev IfStream : ℕ → Stream (M .Op) → Type 0
+  IfStream at out = length s ≤ at
+  IfStream at (bad e position) = Unit {0}
+  IfStream at (one position op next rest) = Behind at position op next rest
+
+  if-before : (at : ℕ) (p : Parsed (M .Op)) → there at ≡ p → IfStream at (before M at (streamAt M s) p)
   unfolding before
-  behind at {position} {next} {op} {rest} e = by-parse (there at) refl
-    where
-      by-parse : (p : Parsed (M .Op)) → there at ≡ p → Behind at op next rest
-      by-parse (operation o n) r =
-          let x : streamAt M s at ≡ one at o n (streamAt M s n) = stream-by at r in
-          let y : n ≡ next = cc in
-          record { parsed = cc; same = cc; inside = subst (λ (m : ℕ). m ≤ length s) y (ends-within at r .inside) }
-      by-parse (faulty n) r =
-          let x : streamAt M s at ≡ bad n at = stream-by at r in
-          let z : _≡_ {A = ℕ} 0 1 = cc in
-          absurd (omega arith)
-      by-parse nothing r =
-          let x : streamAt M s at ≡ out = stream-by at r in
-          let z : _≡_ {A = ℕ} 0 1 = cc in
-          absurd (omega arith)
+  if-before at (operation op next) e =
+      let w = ends-within at e in
+      record {
+        here = refl;
+        parsed = e;
+        beyond = w .beyond;
+        inside = w .inside;
+        same = refl;
+      }
+  if-before at (faulty e) f = tt
+  if-before at noBytes e = no-bytes-left (M .table) s at e
+
+  if-stream : (at : ℕ) {xs : Stream (M .Op)} → streamAt M s at ≡ xs → IfStream at xs
+  if-stream at e = subst (IfStream at) (sym (stream-by at refl) ∙ e) (if-before at (there at) refl)
+
+  pub behind : (at : ℕ) {position next : ℕ} {op : M .Op} {rest : Stream (M .Op)} → streamAt M s at ≡ one position op next rest → Behind at position op next rest
+  behind at e = if-stream at e
+
+  pub is-out : (at : ℕ) → streamAt M s at ≡ out → length s ≤ at
+  is-out at e = if-stream at e

@@ -2,7 +2,7 @@
 use Prim.Native.Nat.{ℕ}
 use mathlib.Core.List.{List}
 use lib.ListN.{length}
-use Rattle.cursor.specs.Cursor.{markedEnded, atStart, startOf, standingOf, movedOf}
+use Rattle.cursor.specs.Cursor.{markedEnded, startOf, standingOf, movedOf}
 use Rattle.cursor.specs.declared.Cursor.{Cursor}
 use Rattle.cursor.specs.declared.Lack.{Lack}
 use Rattle.cursor.specs.declared.Lack.the-variants.{Nothing, Lacks}
@@ -45,12 +45,12 @@ pub data Answer (Reg Item : Type 0) : Type 0 where
   end : State Reg → Answer Reg Item
   refused : (number : ℕ) → State Reg → Answer Reg Item
 
--- a refusal hands back the state as given, marked as ended
+-- any refusal but 19 hands back the state as given, marked as ended
 abbrev pub refusal : {Reg Item : Type 0} → State Reg → Refusal → Answer Reg Item
 refusal given e = refused (numberOf e) (state (markedEnded (given .cursor)) (given .registers))
 
 module _ (M : Machine) (given : State (M .Reg)) where
-  -- a place is due at an offset, unless it lacks something
+  -- a place that is due at an offset: its item, with the state behind it, or the refusal for what it lacks
   unfoldable pub due : (offset : ℕ) → (behind : State (M .Reg)) → Lack → Answer (M .Reg) (M .Item)
   due offset behind Nothing = item (M .item (behind .registers) offset) behind
   due offset behind (Lacks e) = refusal given e

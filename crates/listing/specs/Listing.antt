@@ -5,7 +5,7 @@ use Rattle.cursor.specs.Motion.{placeAt, turnOf}
 use Rattle.cursor.specs.declared.Lack.{Lack}
 use Rattle.cursor.specs.declared.Lack.the-variants.{Nothing, Lacks}
 use Rattle.cursor.specs.declared.Turn.{Turn}
-use Rattle.cursor.specs.declared.Turn.the-variants.{On, Anew, Yields, Done, Stop}
+use Rattle.cursor.specs.declared.Turn.the-variants.{On, Anew, Due, End, Refused}
 use Rattle.listing.specs.Machine.{Effect, Machine}
 use Rattle.listing.specs.Stream.{Stream, out, bad, one, streamAt}
 use Rattle.refusal.specs.Numbers.{numberOf}
@@ -31,10 +31,10 @@ module _ (M : Machine) where
   unfoldable pub listed : (position k : ℕ) → M .Reg → (offset : ℕ) → (M .Reg → ℕ → Listing (M .Item)) → Turn → Listing (M .Item)
   listed position k g offset rest (On to) = rest g to
   listed position k g offset rest Anew = rest g 0
-  listed position k g offset rest (Yields left advance) =
+  listed position k g offset rest (Due left advance) =
       repeated position g offset advance (suc left) (rest g (placeAt offset advance (suc left))) (M .lack g)
-  listed position k g offset rest Done = ends (suc k)
-  listed position k g offset rest (Stop e) = refuses (numberOf e) position
+  listed position k g offset rest End = ends (suc k)
+  listed position k g offset rest (Refused e) = refuses (numberOf e) position
 
   -- what operations list, from registers and an offset on, with k read before them
   unfoldable pub listingOf : (size : ℕ) → Stream (M .Op) → (k : ℕ) → M .Reg → (offset : ℕ) → Listing (M .Item)

@@ -1,11 +1,11 @@
 -- The laws that callers cite: an operation ends behind its place and within the bytes, and what a parser's answer says determines it. They
--- are about the definitions alone. Assumes nothing.
+-- are about the definitions alone. Assumes noBytes.
 use Prim.Native.Nat.{ℕ, _+_, _/_, _%_, _*_, _≤_, _<_}
 use mathlib.Core.Path.{_≡_, refl, ap, sym, _∙_, subst}
 use mathlib.Core.Bool.{Bool, true, false, cond}
 use mathlib.Core.List.{List, [], _∷_}
 use native.Mathlib.Omega.{arith}
-use borrow.Author.Tests.{ltb-true}
+use borrow.Author.Tests.{ltb-true, ltb-false}
 use lib.Dec.{ltb, eqb}
 use lib.IntN.{ℤ}
 use lib.ListN.{length, getD}
@@ -20,21 +20,21 @@ use Rattle.numbers.specs.declared.strings.Text.{Text}
 use Rattle.numbers.specs.declared.strings.Text.the-variants as text
 use Rattle.refusal.proofs.Unique.{one-each}
 use Rattle.refusal.specs.declared.Refusal.{Refusal}
-use Rattle.operations.specs.Table.{Parsed, operation, faulty, nothing, Operands, alone, uleb, ulebs, sleb, string, Row, _⇒_, thenNumber, thenSigned, thenText, operandsAt, rowAt, operationAt}
+use Rattle.operations.specs.Table.{Parsed, operation, faulty, noBytes, Operands, alone, uleb, ulebs, sleb, string, Row, _⇒_, thenNumber, thenSigned, thenText, operandsAt, rowAt, operationAt}
 use Rattle.operations.specs.Told.{rebaseTold, bindTold}
-use Rattle.operations.specs.declared.rebase.RebaseOperation.{RebaseOperation}
-use Rattle.operations.specs.declared.rebase.RebaseParse.{RebaseParse}
-use Rattle.operations.specs.declared.rebase.RebaseParse.the-variants as rebase
-use Rattle.operations.specs.declared.bind.BindOperation.{BindOperation}
-use Rattle.operations.specs.declared.bind.BindParse.{BindParse}
-use Rattle.operations.specs.declared.bind.BindParse.the-variants as bind
+use Rattle.operations.specs.declared.rebase_operation.RebaseOperation.{RebaseOperation}
+use Rattle.operations.specs.declared.rebase_operation.RebaseParse.{RebaseParse}
+use Rattle.operations.specs.declared.rebase_operation.RebaseParse.the-variants as rebase
+use Rattle.operations.specs.declared.bind_operation.BindOperation.{BindOperation}
+use Rattle.operations.specs.declared.bind_operation.BindParse.{BindParse}
+use Rattle.operations.specs.declared.bind_operation.BindParse.the-variants as bind
 
 -- ---- an operation ends behind its place, and within the bytes
 
 abbrev IfOperation : {Op : Type 0} → List ℕ → ℕ → Parsed Op → Type 0
 IfOperation s at (operation op next) = Within s at next
 IfOperation s at (faulty e) = Unit {0}
-IfOperation s at nothing = Unit {0}
+IfOperation s at noBytes = length s ≤ at
 
 further : {s : List ℕ} {at from next : ℕ} → at < from → Within s from next → Within s at next
 further h w = record { beyond = omega (arith, w .beyond); inside = w .inside }
@@ -83,25 +83,30 @@ module _ {Op : Type 0} (s : List ℕ) (at : ℕ) where
 
 module _ {Op : Type 0} (table : ℕ → List (Row Op)) (s : List ℕ) (at : ℕ) where
   if-operation : (t : Bool) → ltb at (length s) ≡ t →
-      IfOperation s at (cond t (rowAt s (at + 1) (getD s at 0 / 16 * 16) (table (getD s at 0 % 16))) nothing)
+      IfOperation s at (cond t (rowAt s (at + 1) (getD s at 0 / 16 * 16) (table (getD s at 0 % 16))) noBytes)
   if-operation true e = if-row s at (ltb-true at (length s) e) (getD s at 0 / 16 * 16) (table (getD s at 0 % 16))
-  if-operation false e = tt
+  if-operation false e = ltb-false at (length s) e
 
   pub operation-read : {op : Op} {next : ℕ} → operationAt table s at ≡ operation op next → Within s at next
   unfolding operationAt
   operation-read e = subst (IfOperation s at) e (if-operation (ltb at (length s)) refl)
+
+  -- there is nothing only where no bytes are left
+  pub no-bytes-left : operationAt table s at ≡ noBytes → length s ≤ at
+  unfolding operationAt
+  no-bytes-left e = subst (IfOperation s at) e (if-operation (ltb at (length s)) refl)
 
 -- ---- what is told of a parse determines it
 
 abbrev rebaseUntold : Parsed RebaseOperation → RebaseParse
 rebaseUntold (operation op next) = rebase.Operation op next
 rebaseUntold (faulty e) = rebase.Refused e
-rebaseUntold nothing = rebase.End
+rebaseUntold noBytes = rebase.End
 
 abbrev bindUntold : Parsed BindOperation → BindParse
 bindUntold (operation op next) = bind.Operation op next
 bindUntold (faulty e) = bind.Refused e
-bindUntold nothing = bind.End
+bindUntold noBytes = bind.End
 
 rebase-back : (r : RebaseParse) → rebaseUntold (rebaseTold r) ≡ r
 rebase-back (rebase.Operation op next) = refl
@@ -128,7 +133,7 @@ module _ {r : RebaseParse} where
   pub rebase-refused : {e : Refusal} → r ≡ rebase.Refused e → rebaseTold r ≡ faulty e
   rebase-refused e = ap rebaseTold e
 
-  pub rebase-end : r ≡ rebase.End → rebaseTold r ≡ nothing
+  pub rebase-end : r ≡ rebase.End → rebaseTold r ≡ noBytes
   rebase-end e = ap rebaseTold e
 
 pub ruleset rebase-told = (rebase-operation, rebase-refused, rebase-end)
@@ -140,7 +145,7 @@ module _ {r : BindParse} where
   pub bind-refused : {e : Refusal} → r ≡ bind.Refused e → bindTold r ≡ faulty e
   bind-refused e = ap bindTold e
 
-  pub bind-end : r ≡ bind.End → bindTold r ≡ nothing
+  pub bind-end : r ≡ bind.End → bindTold r ≡ noBytes
   bind-end e = ap bindTold e
 
 pub ruleset bind-told = (bind-operation, bind-refused, bind-end)

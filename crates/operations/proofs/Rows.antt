@@ -1,4 +1,4 @@
--- What the definitions say of a byte, by the tests that a parser makes: for `search`. Assumes nothing.
+-- What the definitions say of a byte, by the tests that a parser makes: for `search`. Assumes noBytes.
 use Prim.Native.Nat.{ℕ, zero, suc, _+_, _*_, _/_, _%_, _≤_, _<_, zero-le}
 use mathlib.Core.Path.{_≡_, refl, ap, sym, _∙_}
 use mathlib.Core.Bool.{Bool, true, false, cond, _&&_}
@@ -15,7 +15,7 @@ use Rattle.numbers.specs.declared.leb128.Signed.the-variants as signed
 use Rattle.numbers.specs.declared.strings.Text.{Text}
 use Rattle.numbers.specs.declared.strings.Text.the-variants as text
 use Rattle.refusal.specs.declared.Refusal.the-variants.{UnknownOpcode, FaultyOperand}
-use Rattle.operations.specs.Table.{Parsed, operation, faulty, nothing, Row, _⇒_, thenNumber, thenSigned, thenText, operandsAt, rowAt, operationAt}
+use Rattle.operations.specs.Table.{Parsed, operation, faulty, noBytes, Row, _⇒_, thenNumber, thenSigned, thenText, operandsAt, rowAt, operationAt}
 
 -- ---- operands
 
@@ -76,7 +76,7 @@ module _ {Op : Type 0} (s : List ℕ) (at : ℕ) where
       rw (ne-eqb opcode k (λ q. let m = ltb-true k bound (l .0) in omega arith)) (no-row bound opcode h rows (l .1))
 
 module _ {Op : Type 0} (table : ℕ → List (Row Op)) (s : List ℕ) (at : ℕ) where
-  pub no-byte : length s ≤ at → nothing ≡ operationAt table s at
+  pub no-byte : length s ≤ at → noBytes ≡ operationAt table s at
   unfolding operationAt
   no-byte h = rw (le-ltb at (length s) h)
 

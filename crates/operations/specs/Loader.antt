@@ -6,10 +6,10 @@ use mathlib.Core.List.{List, [], _∷_}
 use lib.Dec.{eqb}
 use lib.IntN.{ℤ, pos, _-ℤ_}
 use Rattle.operations.specs.Table.{Row, _⇒_, alone, uleb, ulebs, sleb, string}
-use Rattle.operations.specs.declared.rebase.RebaseOperation.{RebaseOperation}
-use Rattle.operations.specs.declared.rebase.RebaseOperation.the-variants as rebase
-use Rattle.operations.specs.declared.bind.BindOperation.{BindOperation}
-use Rattle.operations.specs.declared.bind.BindOperation.the-variants as bind
+use Rattle.operations.specs.declared.rebase_operation.RebaseOperation.{RebaseOperation}
+use Rattle.operations.specs.declared.rebase_operation.RebaseOperation.the-variants as rebase
+use Rattle.operations.specs.declared.bind_operation.BindOperation.{BindOperation}
+use Rattle.operations.specs.declared.bind_operation.BindOperation.the-variants as bind
 
 -- REBASE_OPCODE_..
 abbrev pub rebaseTable : (imm : ℕ) → List (Row RebaseOperation)

@@ -21,7 +21,7 @@ use Rattle.refusal.specs.declared.Refusal.the-variants.{UnknownOpcode, FaultyOp
 pub data Parsed (Op : Type 0) : Type 0 where
   operation : Op → (next : ℕ) → Parsed Op  -- an operation, and the place behind it
   faulty : Refusal → Parsed Op
-  nothing : Parsed Op  -- no bytes are left
+  noBytes : Parsed Op  -- no bytes are left
 
 -- the operands that follow an opcode's byte, and the operation that they make
 pub data Operands (Op : Type 0) : Type 0 where
@@ -68,4 +68,4 @@ module _ {Op : Type 0} where
   operationAt table s at =
       cond (ltb at (length s))
       (rowAt s (at + 1) (getD s at 0 / 16 * 16) (table (getD s at 0 % 16)))
-      nothing
+      noBytes

@@ -3,8 +3,8 @@ use Prim.Native.Nat.{ℕ, _*_}
 use mathlib.Core.Path.{_≡_, refl, ap, sym, _∙_}
 use Rattle.cursor.specs.declared.Motion.the-variants.{Adds}
 use Rattle.listing.specs.Machine.{Effect, _and_}
-use Rattle.operations.specs.declared.rebase.RebaseOperation.{RebaseOperation}
-use Rattle.operations.specs.declared.rebase.RebaseOperation.the-variants.{AddAddrScaled}
+use Rattle.operations.specs.declared.rebase_operation.RebaseOperation.{RebaseOperation}
+use Rattle.operations.specs.declared.rebase_operation.RebaseOperation.the-variants.{AddAddrScaled}
 use Rattle.rebase.specs.Rebases.{effectOf}
 use Rattle.rebase.specs.declared.Registers.{Registers}
 

@@ -6,8 +6,8 @@ use Rattle.cursor.specs.declared.Lack.the-variants.{Nothing, Lacks}
 use Rattle.cursor.specs.declared.Motion.the-variants.{Stays, Adds, Seeks, Repeats, Ends}
 use Rattle.listing.specs.Machine.{Effect, _and_, Machine}
 use Rattle.operations.specs.Loader.{rebaseTable}
-use Rattle.operations.specs.declared.rebase.RebaseOperation.{RebaseOperation}
-use Rattle.operations.specs.declared.rebase.RebaseOperation.the-variants.{
+use Rattle.operations.specs.declared.rebase_operation.RebaseOperation.{RebaseOperation}
+use Rattle.operations.specs.declared.rebase_operation.RebaseOperation.the-variants.{
   Done,
   SetType,
   SetSegmentAndOffset,

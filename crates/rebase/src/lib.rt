@@ -1,5 +1,5 @@
-// The walk over a rebase stream: a state goes in, and a place that the loader rebases or the end comes
-// out, with the next state.
+// The walk over a rebase stream: a state goes in, and a place that the loader rebases, the end or a
+// refusal comes out, with the next state.
 ghost use mathlib.Core.Path.{_≡_};
 ghost use Rattle.listing.specs.Call.{begin, refusal, due, read, call};
 ghost use Rattle.listing.specs.Machine.{_and_};
@@ -12,8 +12,8 @@ use cursor::Motion;
 use cursor::Moved;
 use cursor::Standing;
 use cursor::Start;
-use operations::rebase::RebaseOperation;
-use operations::rebase::RebaseParse;
+use operations::rebase_operation::RebaseOperation;
+use operations::rebase_operation::RebaseParse;
 use refusal::Refusal;
 
 // A place that the loader rebases: its segment, its offset there, and its type.
@@ -23,7 +23,8 @@ pub struct Rebase {
     pub kind: u8,
 }
 
-// What operations have set, but for the offset.
+// What operations have set, but for the offset: whether a segment is set and whether a type is, and
+// which.
 pub struct Registers {
     pub segmented: bool,
     pub typed: bool,
@@ -107,6 +108,17 @@ impl Registers {
             Lack::Lacks(Refusal::NoSegment)
         }
     }
+
+    // What a place at an offset gives.
+    fn item(self, offset: u64) -> Rebase
+        ensures { λ r. ⌜ r ≡ itemOf self offset ⌝ }
+    {
+        Rebase {
+            segment: self.segment,
+            offset,
+            kind: self.kind,
+        }
+    }
 }
 
 impl RebaseWalk {
@@ -128,7 +140,7 @@ impl RebaseWalk {
         }
     }
 
-    // The next place, or the end. Each call lends the same stream.
+    // The next place, the end or a refusal, and the next state, for any state and any bytes.
     pub fn step(self, s: &[u8]) -> RebaseStep
         ensures { λ r. ⌜ told r ≡ call rebases (now (s .entry)) (view self) ⌝ }
     {
@@ -186,14 +198,7 @@ impl RebaseWalk {
     {
         let g = behind.registers;
         match g.lack() {
-            Lack::Nothing => {
-                let place = Rebase {
-                    segment: g.segment,
-                    offset,
-                    kind: g.kind,
-                };
-                RebaseStep::Item(place, behind)
-            }
+            Lack::Nothing => RebaseStep::Item(g.item(offset), behind),
             Lack::Lacks(e) => self.refused(e),
         }
     }

@@ -53,7 +53,7 @@ abbrev pub defined : Example → Meaning
 defined (uleb n bytes) = unsigned (ulebAt bytes 0)
 defined (sleb z bytes) = signed (slebAt bytes 0)
 defined (rebased bytes run) = places (heard (listing rebases 8 rebase.unset bytes))
-defined (bound bytes run) = symbols (allNamed bytes (heard (listing binds 8 bind.unset bytes)))
+defined (bound bytes run) = symbols (allNamed bytes (heard (listing binds 8 bind.plainly bytes)))
 
 -- what the document says: of a number, that it is this one and the bytes are read to their end
 abbrev pub documented : Example → Meaning
@@ -76,7 +76,7 @@ examples =
     sleb (pos 127) (0xff ∷ 0x00 ∷ []) ∷
     sleb (minus 128) (0x80 ∷ 0x7f ∷ []) ∷
     sleb (minus 129) (0xff ∷ 0x7e ∷ []) ∷
-    -- S1 to S4, the cases of opcode streams that the scope gives
+    -- the cases S1 to S4 of opcode streams
     rebased (0x11 ∷ 0x22 ∷ 0x10 ∷ 0x53 ∷ 0x00 ∷ [])
     (gives (place 2 16 1) (gives (place 2 24 1) (gives (place 2 32 1) stops))) ∷
     bound (0x11 ∷ 0x40 ∷ 0x5f ∷ 0x61 ∷ 0x00 ∷ 0x51 ∷ 0x72 ∷ 0x08 ∷ 0x90 ∷ [])

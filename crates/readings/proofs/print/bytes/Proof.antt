@@ -1,9 +1,9 @@
--- `readings::bytes` meets its contract. Assumes nothing.
+-- `readings::print::bytes` meets its contract. Assumes nothing.
 use Prim.Native.Nat.{_-_}
 use borrow.Author.Needs.{needs}
 use lib.ListN.{length}
-use Rattle.readings.proofs.bytes.Statement.{statement}
-use Rattle.readings.proofs.bytes.Tie as tie
+use Rattle.readings.proofs.print.bytes.Statement.{statement}
+use Rattle.readings.proofs.print.bytes.Tie as tie
 
 abbrev Inv-loop : tie.InvT-loop
 Inv-loop s at₀ at = Unit {0}

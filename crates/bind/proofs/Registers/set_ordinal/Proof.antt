@@ -1,11 +1,11 @@
--- `bind::Registers::from_ordinal` meets its contract. Assumes nothing.
+-- `bind::Registers::set_ordinal` meets its contract. Assumes nothing.
 use borrow.Author.Needs.{needs}
 use Rattle.bind.proofs.Effects.{ordinal-large, ordinal-set}
-use Rattle.bind.proofs.Registers.from_ordinal.Statement.{statement}
-use Rattle.bind.proofs.Registers.from_ordinal.Tie as tie
+use Rattle.bind.proofs.Registers.set_ordinal.Statement.{statement}
+use Rattle.bind.proofs.Registers.set_ordinal.Tie as tie
 
-pub from-ordinal-spec : {M : Type 1} → statement M
-from-ordinal-spec =
+pub set-ordinal-spec : {M : Type 1} → statement M
+set-ordinal-spec =
     tie.close
     (tie.spec
     (λ c κs. search needs)

@@ -1,11 +1,11 @@
--- `operations::rebase::RebaseOperation::parse` meets its contract. Assumes nothing.
+-- `operations::rebase_operation::RebaseOperation::parse` meets its contract. Assumes nothing.
 use borrow.Author.Needs.{needs}
 use mathlib.Core.Path.{refl}
 use Rattle.operations.proofs.Rows.{no-byte, has-row, has-no-row, row-laws}
 use Rattle.operations.specs.Loader.{rebaseTable}
 use Rattle.operations.specs.Table.{rowAt}
-use Rattle.operations.proofs.rebase.RebaseOperation.parse.Statement.{statement}
-use Rattle.operations.proofs.rebase.RebaseOperation.parse.Tie as tie
+use Rattle.operations.proofs.rebase_operation.RebaseOperation.parse.Statement.{statement}
+use Rattle.operations.proofs.rebase_operation.RebaseOperation.parse.Tie as tie
 
 pub parse-spec : {M : Type 1} → statement M
 unfolding rowAt

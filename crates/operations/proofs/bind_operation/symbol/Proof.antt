@@ -1,8 +1,8 @@
--- `operations::bind::symbol` meets its contract. Assumes nothing.
+-- `operations::bind_operation::symbol` meets its contract. Assumes nothing.
 use borrow.Author.Needs.{needs}
 use Rattle.operations.proofs.Rows.{row-laws}
-use Rattle.operations.proofs.bind.symbol.Statement.{statement}
-use Rattle.operations.proofs.bind.symbol.Tie as tie
+use Rattle.operations.proofs.bind_operation.symbol.Statement.{statement}
+use Rattle.operations.proofs.bind_operation.symbol.Tie as tie
 
 pub symbol-spec : {M : Type 1} → statement M
 symbol-spec =

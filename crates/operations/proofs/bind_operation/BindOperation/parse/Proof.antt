@@ -1,11 +1,11 @@
--- `operations::bind::BindOperation::parse` meets its contract. Assumes nothing.
+-- `operations::bind_operation::BindOperation::parse` meets its contract. Assumes nothing.
 use borrow.Author.Needs.{needs}
 use mathlib.Core.Path.{refl}
 use Rattle.operations.proofs.Rows.{no-byte, has-row, has-no-row, row-laws}
 use Rattle.operations.specs.Loader.{bindTable}
 use Rattle.operations.specs.Table.{rowAt}
-use Rattle.operations.proofs.bind.BindOperation.parse.Statement.{statement}
-use Rattle.operations.proofs.bind.BindOperation.parse.Tie as tie
+use Rattle.operations.proofs.bind_operation.BindOperation.parse.Statement.{statement}
+use Rattle.operations.proofs.bind_operation.BindOperation.parse.Tie as tie
 
 pub parse-spec : {M : Type 1} → statement M
 unfolding rowAt

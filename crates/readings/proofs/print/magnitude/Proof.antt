@@ -1,8 +1,8 @@
--- `readings::magnitude` meets its contract. Assumes nothing.
+-- `readings::print::magnitude` meets its contract. Assumes nothing.
 use borrow.Author.Needs.{needs}
 use Rattle.readings.proofs.Negative.{flip-fits, flip-casts, flip-more, flip-is, casts}
-use Rattle.readings.proofs.magnitude.Statement.{statement}
-use Rattle.readings.proofs.magnitude.Tie as tie
+use Rattle.readings.proofs.print.magnitude.Statement.{statement}
+use Rattle.readings.proofs.print.magnitude.Tie as tie
 
 pub magnitude-spec : {M : Type 1} → statement M
 magnitude-spec =
