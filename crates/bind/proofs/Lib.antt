@@ -1,2 +1,5 @@
 pub mod Effects
 pub mod Unique
+pub mod Names
+pub mod Lazy
+pub mod Walks

@@ -303,21 +303,14 @@ impl BindWalk {
                     let did = registers.effect(cursor.size, op);
                     let motion = did.motion;
                     registers = did.registers;
+                    let offset = cursor.offset;
                     match cursor.moved(next, motion) {
                         Moved::On(c) => cursor = c,
-                        Moved::Due(c) => {
-                            return self.due(
-                                cursor.offset,
-                                BindWalk {
-                                    cursor: c,
-                                    registers,
-                                },
-                            );
-                        }
-                        Moved::End(c) => return BindStep::End(BindWalk {
-                            cursor: c,
-                            registers,
-                        }),
+                        Moved::Due(cursor) => return self.due(
+                            offset,
+                            BindWalk { cursor, registers },
+                        ),
+                        Moved::End(cursor) => return BindStep::End(BindWalk { cursor, registers }),
                         Moved::Refused(e) => return self.refused(e),
                     }
                 }

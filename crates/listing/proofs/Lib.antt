@@ -3,4 +3,5 @@ pub mod Runs
 pub mod Joined
 pub mod Kept
 pub mod Resumed
+pub mod Held
 pub mod Loops

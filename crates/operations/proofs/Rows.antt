@@ -85,10 +85,12 @@ module _ {Op : Type 0} (table : ℕ → List (Row Op)) (s : List ℕ) (at : ℕ)
     unfolding operationAt
     has-row e q = rw (lt-ltb at (length s) h, e) q
 
-    pub has-no-row : (k : ℕ) → NoneOf k (getD s at 0 / 16) → allBelow (k * 16) (table (getD s at 0 % 16)) ≡ true → faulty UnknownOpcode ≡ operationAt table s at
+    pub has-no-row : (k : ℕ) {y : Parsed Op} → NoneOf k (getD s at 0 / 16) → allBelow (k * 16) (table (getD s at 0 % 16)) ≡ true → y ≡ faulty UnknownOpcode →
+        y ≡ operationAt table s at
     unfolding operationAt
-    has-no-row k r e =
-        rw (lt-ltb at (length s) h)
+    has-no-row k r e q =
+        q
+        ∙ rw (lt-ltb at (length s) h)
         (no-row s (at + 1) (k * 16) (getD s at 0 / 16 * 16) (let l = at-least k (getD s at 0 / 16) r in omega arith) (table (getD s at 0 % 16)) e)
 
 pub ruleset row-laws = (number-read, number-faulty, signed-read, signed-faulty, text-read, text-faulty)

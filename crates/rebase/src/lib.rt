@@ -170,19 +170,15 @@ impl RebaseWalk {
                     let did = registers.effect(cursor.size, op);
                     let motion = did.motion;
                     registers = did.registers;
+                    let offset = cursor.offset;
                     match cursor.moved(next, motion) {
                         Moved::On(c) => cursor = c,
-                        Moved::Due(c) => {
-                            return self.due(
-                                cursor.offset,
-                                RebaseWalk {
-                                    cursor: c,
-                                    registers,
-                                },
-                            );
-                        }
-                        Moved::End(c) => return RebaseStep::End(RebaseWalk {
-                            cursor: c,
+                        Moved::Due(cursor) => return self.due(
+                            offset,
+                            RebaseWalk { cursor, registers },
+                        ),
+                        Moved::End(cursor) => return RebaseStep::End(RebaseWalk {
+                            cursor,
                             registers,
                         }),
                         Moved::Refused(e) => return self.refused(e),

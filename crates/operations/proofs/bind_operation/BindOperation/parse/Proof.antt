@@ -65,4 +65,4 @@ parse-spec =
     (λ c. search (no-byte bindTable, has-row bindTable, row-laws, needs))
     (λ c. search (no-byte bindTable, has-row bindTable, row-laws, needs))
     (λ c. search (no-byte bindTable, has-row bindTable, row-laws, needs))
-    (λ c. has-no-row bindTable _ _ (c .before .before .before .if1 .left) 13 (c .match .rest) refl))
+    (λ c. has-no-row bindTable _ _ (c .before .before .before .if1 .left) 13 (c .match .rest) refl (search needs)))

@@ -51,4 +51,4 @@ parse-spec =
     (λ c. search (no-byte rebaseTable, has-row rebaseTable, row-laws, needs))
     (λ c. search (no-byte rebaseTable, has-row rebaseTable, row-laws, needs))
     (λ c. search (no-byte rebaseTable, has-row rebaseTable, row-laws, needs))
-    (λ c. has-no-row rebaseTable _ _ (c .before .before .before .if1 .left) 9 (c .match .rest) refl))
+    (λ c. has-no-row rebaseTable _ _ (c .before .before .before .if1 .left) 9 (c .match .rest) refl (search needs)))
