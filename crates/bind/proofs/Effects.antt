@@ -1,14 +1,13 @@
 -- What an operation does, by a match on it and by its tests: for `search`. Assumes nothing.
 use Prim.Native.Nat.{ℕ, _*_, _^_, _≤_, _<_}
-use mathlib.Core.Path.{_≡_, refl, ap, sym, _∙_}
-use mathlib.Core.Bool.{true, false}
+use mathlib.Core.Path.{_≡_, ap, sym, _∙_}
 use native.Mathlib.Omega.{arith}
 use borrow.Author.Tests.{le-leb, lt-leb}
-use lib.IntN.{ℤ, pos}
+use lib.IntN.{ℤ}
 use mir.Syntax.{w32, w64}
 use mir.Val.{SFits, toZ, ofZ}
 use mir.Facts.{toZ-pos, toZ-ofZ}
-use Rattle.cursor.specs.declared.Motion.the-variants.{Stays, Restarts, Repeats, Ends, Refuses}
+use Rattle.cursor.specs.declared.Motion.the-variants.{Stays, Repeats, Refuses}
 use Rattle.listing.specs.Machine.{Effect, _and_}
 use Rattle.operations.specs.declared.bind_operation.BindOperation.{BindOperation}
 use Rattle.operations.specs.declared.bind_operation.BindOperation.the-variants.{SetDylibSpecial, SetAddend, DoBindAddAddrScaled}

@@ -10,7 +10,7 @@ use lib.ListN.{length}
 use Rattle.cursor.specs.declared.Motion.{Motion}
 use Rattle.cursor.specs.declared.Motion.the-variants.{Stays, Adds, Seeks, Restarts, Repeats, Ends, Refuses}
 use Rattle.listing.proofs.Held.{held}
-use Rattle.listing.proofs.Resumed.{Why, no-bytes, behind-done, Resumed, resumed}
+use Rattle.listing.proofs.Resumed.{Why, no-bytes, behind-done, resumed}
 use Rattle.listing.specs.Call.{State, end, call}
 use Rattle.listing.specs.Machine.{Effect, _and_}
 use Rattle.operations.specs.declared.bind_operation.BindOperation.{BindOperation}

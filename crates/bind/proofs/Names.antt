@@ -1,6 +1,6 @@
 -- The name of every bind that a walk yields lies in the stream, so that `name` hands back all of it. Assumes nothing.
 use Prim.Native.Nat.{ℕ, _+_, _<_}
-use mathlib.Core.Path.{_≡_, refl, ap, sym, _∙_, subst}
+use mathlib.Core.Path.{_≡_, ap, sym, _∙_}
 use mathlib.Core.Bool.{Bool, true, false, cond}
 use mathlib.Core.List.{List}
 use native.Mathlib.Omega.{arith}
@@ -8,9 +8,9 @@ use lib.Dec.{leb}
 use lib.IntN.{pos}
 use lib.ListN.{length}
 use Rattle.cursor.specs.declared.Motion.the-variants.{Stays, Restarts, Ends, Refuses}
-use Rattle.listing.proofs.Held.{Gives, held}
+use Rattle.listing.proofs.Held.{held}
 use Rattle.listing.specs.Call.{State, item, call}
-use Rattle.listing.specs.Machine.{Effect, _and_}
+use Rattle.listing.specs.Machine.{_and_}
 use Rattle.numbers.proofs.Laws.{part-length}
 use Rattle.numbers.specs.Parts.{partOf}
 use Rattle.operations.proofs.Symbols.{NameIn, symbol-read}
@@ -32,7 +32,7 @@ use Rattle.operations.specs.declared.bind_operation.BindOperation.the-variants.
   DoBindTimesSkipping,
 }
 use Rattle.refusal.specs.declared.Refusal.the-variants.{OrdinalTooLarge}
-use Rattle.bind.specs.Binds.{withLibrary, lazily, plainly, weakly, effectOf, binds}
+use Rattle.bind.specs.Binds.{withLibrary, lazily, effectOf, binds}
 use Rattle.bind.specs.declared.Bind.{Bind}
 use Rattle.bind.specs.declared.Registers.{Registers}
 

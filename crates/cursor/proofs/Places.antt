@@ -1,6 +1,6 @@
 -- The places of a repeat, one after the other; and offsets stay below 2^64. Assumes nothing.
-use Prim.Native.Nat.{ℕ, zero, suc, _+_, _*_, _%_, _^_, _<_}
-use mathlib.Core.Path.{_≡_, refl}
+use Prim.Native.Nat.{ℕ, zero, suc, _+_, _%_, _^_, _<_}
+use mathlib.Core.Path.{_≡_}
 use native.Mathlib.Omega.{arith}
 use Rattle.cursor.specs.Motion.{placeAt, turnOf}
 use Rattle.cursor.specs.declared.Motion.{Motion}

@@ -4,7 +4,7 @@ use mathlib.Core.Path.{_≡_, refl, ap, sym, _∙_}
 use mathlib.Core.Bool.{Bool, true, false}
 use native.Mathlib.Nat.{mod-eq-of-lt}
 use native.Mathlib.Omega.{arith}
-use borrow.Author.Tests.{le-leb, lt-leb, ne-eqb}
+use borrow.Author.Tests.{le-leb, lt-leb}
 use Rattle.cursor.specs.Cursor.{isPointerSize, atStart, startOf, behindPlace, liveStanding, standingOf, readTo, movedBy, movedOf}
 use Rattle.cursor.specs.Motion.{advanceOf, turnOf}
 use Rattle.cursor.specs.declared.Cursor.{Cursor}

@@ -11,10 +11,10 @@ use Rattle.cursor.specs.declared.Moved.the-variants as moved
 use Rattle.cursor.specs.declared.Standing.{Standing}
 use Rattle.cursor.specs.declared.Standing.the-variants as standing
 use Rattle.listing.specs.Call.{State, state, Answer, item, end, refused, due, answered, read, called, call}
-use Rattle.listing.specs.Machine.{Effect, Machine}
+use Rattle.listing.specs.Machine.{Machine}
 use Rattle.listing.specs.Stream.{Stream, out, bad, one, streamAt}
 use Rattle.listing.proofs.Runs.{call-by}
-use Rattle.listing.proofs.Streams.{Behind, behind}
+use Rattle.listing.proofs.Streams.{behind}
 use Rattle.operations.specs.Table.{operation, operationAt}
 
 module _ (M : Machine) (s : List ℕ) (P : M .Reg → Type 0)

@@ -1,5 +1,5 @@
 -- Calls from a start on say what the stream lists, and nothing else. Assumes nothing.
-use Prim.Native.Nat.{ℕ, zero, suc, _+_, _%_, _^_, _<_}
+use Prim.Native.Nat.{ℕ, zero, suc, _+_, _^_, _<_}
 use mathlib.Core.Path.{_≡_, refl, ap, sym, _∙_, subst}
 use mathlib.Core.List.{List}
 use mathlib.Core.Bool.{Bool, true, false, cond}
@@ -16,7 +16,7 @@ use Rattle.cursor.specs.declared.Turn.{Turn}
 use Rattle.cursor.specs.declared.Turn.the-variants.{On, Anew, Due, End, Refused}
 use Rattle.listing.specs.Call.{State, state, begun, beginFrom, begin}
 use Rattle.listing.specs.Listing.{Listing, places, repeated, listed, listingOf, listing}
-use Rattle.listing.specs.Machine.{Effect, Machine}
+use Rattle.listing.specs.Machine.{Machine}
 use Rattle.listing.specs.Runs.{Run, gives, Walks, heard}
 use Rattle.listing.specs.Stream.{Stream, out, bad, one, streamAt}
 use Rattle.refusal.specs.declared.Refusal.the-variants.{PointerSize}

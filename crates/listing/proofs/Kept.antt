@@ -1,6 +1,6 @@
 -- A refused walk says End ever after. Assumes nothing.
 use Prim.Native.Nat.{ℕ, zero, suc}
-use mathlib.Core.Path.{_≡_, refl, ap, sym, _∙_, subst}
+use mathlib.Core.Path.{_≡_, refl, sym, _∙_, subst}
 use mathlib.Core.List.{List}
 use mathlib.Core.Bool.{Bool, true, false, cond}
 use lib.ListN.{length}
@@ -12,7 +12,7 @@ use Rattle.cursor.specs.declared.Moved.{Moved}
 use Rattle.cursor.specs.declared.Moved.the-variants as moved
 use Rattle.cursor.specs.declared.Standing.the-variants as standing
 use Rattle.listing.specs.Call.{State, state, Answer, item, end, refused, due, answered, read, called, call}
-use Rattle.listing.specs.Machine.{Effect, Machine}
+use Rattle.listing.specs.Machine.{Machine}
 use Rattle.listing.specs.Stream.{Stream, out, bad, one, streamAt}
 use Rattle.listing.proofs.Runs.{call-by}
 

@@ -1,5 +1,5 @@
 -- A walk's code by the tests it makes, for `search`: a call, and one turn of the loop that reads operations. Assumes nothing.
-use Prim.Native.Nat.{ℕ, _-_, _≤_, _<_}
+use Prim.Native.Nat.{ℕ, _-_, _<_}
 use mathlib.Core.Path.{_≡_, refl, ap, sym, _∙_, subst}
 use mathlib.Core.List.{List}
 use native.Mathlib.Omega.{arith}
@@ -20,7 +20,6 @@ use Rattle.listing.specs.Machine.{Effect, _and_, Machine}
 use Rattle.listing.specs.Stream.{Stream, before, streamAt}
 use Rattle.listing.proofs.Runs.{call-by}
 use Rattle.listing.proofs.Streams.{ends-within, stream-by}
-use Rattle.numbers.proofs.Laws.{Within}
 use Rattle.operations.specs.Table.{Parsed, operation, operationAt}
 
 -- ---- a start, by what the cursor's start is

@@ -1,22 +1,21 @@
 -- After End a walk goes on where it stands: behind a Done, or where no bytes are left. Assumes nothing.
-use Prim.Native.Nat.{ℕ, zero, suc, _≤_, _<_, _+_, _%_, _^_}
-use mathlib.Core.Path.{_≡_, refl, ap, sym, _∙_, subst}
+use Prim.Native.Nat.{ℕ, zero, suc, _≤_, _<_, _^_}
+use mathlib.Core.Path.{_≡_, refl, ap, sym, subst}
 use mathlib.Core.List.{List}
-use mathlib.Core.Bool.{Bool, true, false, cond}
+use mathlib.Core.Bool.{Bool, true, false}
 use native.Mathlib.Omega.{arith}
 use lib.ListN.{length}
 use Rattle.cursor.proofs.Places.{Bounded, bounded}
-use Rattle.cursor.specs.Cursor.{isPointerSize, inRange, liveStanding, standingOf, movedBy}
+use Rattle.cursor.specs.Cursor.{isPointerSize, inRange, movedBy}
 use Rattle.cursor.specs.Motion.{turnOf}
 use Rattle.cursor.specs.declared.Cursor.{Cursor}
 use Rattle.cursor.specs.declared.Lack.{Lack}
 use Rattle.cursor.specs.declared.Lack.the-variants.{Nothing, Lacks}
 use Rattle.cursor.specs.declared.Motion.{Motion}
 use Rattle.cursor.specs.declared.Motion.the-variants.{Stays, Adds, Seeks, Restarts, Repeats, Ends, Refuses}
-use Rattle.cursor.specs.declared.Standing.the-variants as standing
 use Rattle.cursor.specs.declared.Turn.{Turn}
 use Rattle.cursor.specs.declared.Turn.the-variants.{On, Anew, Due, End, Refused}
-use Rattle.listing.specs.Call.{State, state, Answer, item, end, refused, due, answered, read, called, call}
+use Rattle.listing.specs.Call.{State, state, Answer, item, end, refused, due, answered, read, call}
 use Rattle.listing.specs.Machine.{Effect, _and_, Machine}
 use Rattle.listing.specs.Runs.{Walks, heard}
 use Rattle.listing.specs.Stream.{Stream, out, bad, one, streamAt}

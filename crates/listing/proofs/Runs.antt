@@ -2,8 +2,7 @@
 use Prim.Native.Nat.{ℕ, zero, suc, _+_, _≤_, _%_, _^_}
 use mathlib.Core.Path.{_≡_, refl, ap, ap₂, sym, _∙_, subst}
 use mathlib.Core.List.{List}
-use mathlib.Core.Bool.{Bool, true, false, cond, _&&_}
-use native.Mathlib.Omega.{arith}
+use mathlib.Core.Bool.{Bool, true, false, cond}
 use borrow.Author.Tests.{leb-true}
 use lib.Dec.{leb}
 use lib.ListN.{length}
@@ -17,19 +16,16 @@ use Rattle.cursor.specs.declared.Standing.{Standing}
 use Rattle.cursor.specs.declared.Standing.the-variants as standing
 use Rattle.cursor.specs.declared.Turn.{Turn}
 use Rattle.cursor.specs.declared.Turn.the-variants.{On, Anew, Due, End, Refused}
-use Rattle.listing.specs.Call.{State, state, Answer, item, end, refused, due, answered, read, called, call}
-use Rattle.listing.specs.Machine.{Effect, Machine}
+use Rattle.listing.specs.Call.{State, state, item, due, answered, read, called, call}
+use Rattle.listing.specs.Machine.{Machine}
 use Rattle.listing.specs.Runs.{Run, stops, fails, gives, Walks, at-end, at-refusal, at-item}
 use Rattle.listing.specs.Stream.{Stream, out, bad, one, streamAt}
-use Rattle.listing.proofs.Streams.{Behind, behind}
+use Rattle.listing.proofs.Streams.{behind}
+use Rattle.operations.proofs.Rows.{both}
 use Rattle.refusal.specs.Numbers.{numberOf}
 use Rattle.refusal.specs.declared.Refusal.the-variants.{StateOutOfRange}
 
 -- ---- states from which a walk goes on
-
-both : (a b : Bool) → a && b ≡ true → (a ≡ true) × (b ≡ true)
-both true b e = (refl, e)
-both false b e = (e, cc)
 
 -- a cursor that has not ended
 abbrev pub live : (size at remaining advance offset : ℕ) → Cursor

@@ -18,7 +18,7 @@ module _ (M : Machine) (s : List ℕ) where
 
   -- an operation ends behind its place, and within the bytes
   pub ends-within : (at : ℕ) {op : M .Op} {next : ℕ} → there at ≡ operation op next → Within s at next
-  ends-within at e = operation-read (M .table) s at e
+  ends-within at e = operation-read s at (M .table) e
 
   before-same : (at : ℕ) (r q : ℕ → Stream (M .Op)) (p : Parsed (M .Op)) → there at ≡ p → ((next : ℕ) → at < next → r next ≡ q next) →
       before M at r p ≡ before M at q p
@@ -67,7 +67,7 @@ module _ (M : Machine) (s : List ℕ) where
         same = refl;
       }
   if-before at (faulty e) f = tt
-  if-before at noBytes e = no-bytes-left (M .table) s at e
+  if-before at noBytes e = no-bytes-left s at (M .table) e
 
   if-stream : (at : ℕ) {xs : Stream (M .Op)} → streamAt M s at ≡ xs → IfStream at xs
   if-stream at e = subst (IfStream at) (sym (stream-by at refl) ∙ e) (if-before at (there at) refl)

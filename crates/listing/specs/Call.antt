@@ -12,7 +12,7 @@ use Rattle.cursor.specs.declared.Standing.{Standing}
 use Rattle.cursor.specs.declared.Standing.the-variants as standing
 use Rattle.cursor.specs.declared.Start.{Start}
 use Rattle.cursor.specs.declared.Start.the-variants as start
-use Rattle.listing.specs.Machine.{Effect, Machine}
+use Rattle.listing.specs.Machine.{Machine}
 use Rattle.listing.specs.Stream.{Stream, out, bad, one, streamAt}
 use Rattle.refusal.specs.Numbers.{numberOf}
 use Rattle.refusal.specs.declared.Refusal.{Refusal}

@@ -2,7 +2,7 @@
 use Prim.Native.Nat.{ℕ}
 use mathlib.Core.Path.{_≡_}
 use mathlib.Core.List.{List}
-use Rattle.listing.specs.Call.{State, Answer, call}
+use Rattle.listing.specs.Call.{State, call}
 use Rattle.listing.specs.Call as answer
 use Rattle.listing.specs.Listing.{Listing, ends, refuses, lists}
 use Rattle.listing.specs.Machine.{Machine}

@@ -1,26 +1,17 @@
 -- The laws that callers cite: an operation ends behind its place and within the bytes, and what a parser's answer says determines it. They
 -- are about the definitions alone. Assumes noBytes.
-use Prim.Native.Nat.{ℕ, _+_, _/_, _%_, _*_, _≤_, _<_}
-use mathlib.Core.Path.{_≡_, refl, ap, sym, _∙_, subst}
-use mathlib.Core.Bool.{Bool, true, false, cond}
-use mathlib.Core.List.{List, [], _∷_}
+use Prim.Native.Nat.{ℕ, _+_, _≤_, _<_}
+use mathlib.Core.Path.{_≡_, refl, ap, sym, subst}
+use mathlib.Core.List.{List}
 use native.Mathlib.Omega.{arith}
-use borrow.Author.Tests.{ltb-true, ltb-false}
-use lib.Dec.{ltb, eqb}
-use lib.IntN.{ℤ}
-use lib.ListN.{length, getD}
+use lib.ListN.{length}
 use Rattle.numbers.proofs.Laws.{Within, uleb-read, sleb-read, string-read}
 use Rattle.numbers.specs.Leb128.{ulebAt, slebAt}
 use Rattle.numbers.specs.Strings.{stringAt}
-use Rattle.numbers.specs.declared.Number.{Number}
-use Rattle.numbers.specs.declared.Number.the-variants as number
-use Rattle.numbers.specs.declared.leb128.Signed.{Signed}
-use Rattle.numbers.specs.declared.leb128.Signed.the-variants as signed
-use Rattle.numbers.specs.declared.strings.Text.{Text}
-use Rattle.numbers.specs.declared.strings.Text.the-variants as text
 use Rattle.refusal.proofs.Unique.{one-each}
 use Rattle.refusal.specs.declared.Refusal.{Refusal}
-use Rattle.operations.specs.Table.{Parsed, operation, faulty, noBytes, Operands, alone, uleb, ulebs, sleb, string, Row, _⇒_, thenNumber, thenSigned, thenText, operandsAt, rowAt, operationAt}
+use Rattle.operations.specs.Table.{Parsed, operation, faulty, noBytes, Operands, alone, uleb, ulebs, sleb, string, Row, operandsAt, operationAt}
+use Rattle.operations.proofs.Cases.{by-number, by-signed, by-text, each, by-table}
 use Rattle.operations.specs.Told.{rebaseTold, bindTold}
 use Rattle.operations.specs.declared.rebase_operation.RebaseOperation.{RebaseOperation}
 use Rattle.operations.specs.declared.rebase_operation.RebaseParse.{RebaseParse}
@@ -40,61 +31,32 @@ further : {s : List ℕ} {at from next : ℕ} → at < from → Within s from ne
 further h w = record { beyond = omega (arith, w .beyond); inside = w .inside }
 
 module _ {Op : Type 0} (s : List ℕ) (at : ℕ) where
-  -- what is made of an operand that stands at a place from on
-  module _ (from : ℕ) where
-    if-number : (x : Number) → ulebAt s from ≡ x → (go : ℕ → ℕ → Parsed Op) →
-        ((v next : ℕ) → Within s from next → IfOperation s at (go v next)) → IfOperation s at (thenNumber x go)
-    unfolding thenNumber
-    if-number (number.Value v next) e go k = k v next (uleb-read s from (sym e) refl .within)
-    if-number number.Fault e go k = tt
+  abbrev IfRead : Parsed Op → Type 0
+  IfRead = IfOperation s at
 
-    if-signed : (x : Signed) → slebAt s from ≡ x → (go : ℤ → ℕ → Parsed Op) →
-        ((v : ℤ) (next : ℕ) → Within s from next → IfOperation s at (go v next)) → IfOperation s at (thenSigned x go)
-    unfolding thenSigned
-    if-signed (signed.Value v next) e go k = k v next (sleb-read s from (sym e) refl .within)
-    if-signed signed.Fault e go k = tt
+  if-operands : at < length s → (o : Operands Op) → IfRead (operandsAt s (at + 1) o)
+  if-operands h (alone op) = record { beyond = omega arith; inside = omega arith }
+  if-operands h (uleb make) =
+      by-number IfRead (λ e. tt) (ulebAt s (at + 1)) _ (λ v next e. further (omega arith) (uleb-read s (at + 1) (sym e) refl .within))
+  if-operands h (ulebs make) =
+      by-number IfRead (λ e. tt) (ulebAt s (at + 1)) _
+      (λ v next e. let w = uleb-read s (at + 1) (sym e) refl .within in
+      by-number IfRead (λ e. tt) (ulebAt s next) _ (λ u after f. further (omega (arith, w .beyond)) (uleb-read s next (sym f) refl .within)))
+  if-operands h (sleb make) =
+      by-signed IfRead (λ e. tt) (slebAt s (at + 1)) _ (λ v next e. further (omega arith) (sleb-read s (at + 1) (sym e) refl .within))
+  if-operands h (string make) =
+      by-text IfRead (λ e. tt) (stringAt s (at + 1)) _ (λ start len next e. further (omega arith) (string-read s (at + 1) (sym e) refl .within))
 
-    if-text : (x : Text) → stringAt s from ≡ x → (go : ℕ → ℕ → ℕ → Parsed Op) →
-        ((start len next : ℕ) → Within s from next → IfOperation s at (go start len next)) → IfOperation s at (thenText x go)
-    unfolding thenText
-    if-text (text.Found start len next) e go k = k start len next (string-read s from (sym e) refl .within)
-    if-text text.Fault e go k = tt
+  module _ (table : ℕ → List (Row Op)) where
+    if-operation : IfRead (operationAt table s at)
+    if-operation = by-table IfRead (λ e. tt) table s at (λ h imm. each IfRead (λ e. tt) s (at + 1) (if-operands h) (table imm)) (λ h. h)
 
-  module _ (h : at < length s) where
-    if-operands : (o : Operands Op) → IfOperation s at (operandsAt s (at + 1) o)
-    if-operands (alone op) = record { beyond = omega arith; inside = omega arith }
-    if-operands (uleb make) = if-number (at + 1) (ulebAt s (at + 1)) refl _ (λ v next w. further (omega arith) w)
-    if-operands (ulebs make) =
-        if-number (at + 1) (ulebAt s (at + 1)) refl _
-        (λ v next w. if-number next (ulebAt s next) refl _ (λ u after x. further (omega (arith, w .beyond)) x))
-    if-operands (sleb make) = if-signed (at + 1) (slebAt s (at + 1)) refl _ (λ v next w. further (omega arith) w)
-    if-operands (string make) = if-text (at + 1) (stringAt s (at + 1)) refl _ (λ start len next w. further (omega arith) w)
+    pub operation-read : {op : Op} {next : ℕ} → operationAt table s at ≡ operation op next → Within s at next
+    operation-read e = subst IfRead e if-operation
 
-    either : (t : Bool) (x y : Parsed Op) → IfOperation s at x → IfOperation s at y → IfOperation s at (cond t x y)
-    either true x y p q = p
-    either false x y p q = q
-
-    if-row : (opcode : ℕ) (rows : List (Row Op)) → IfOperation s at (rowAt s (at + 1) opcode rows)
-    unfolding rowAt
-    if-row opcode [] = tt
-    if-row opcode (k ⇒ operands ∷ rows) =
-        either (eqb opcode k) (operandsAt s (at + 1) operands) (rowAt s (at + 1) opcode rows)
-        (if-operands operands) (if-row opcode rows)
-
-module _ {Op : Type 0} (table : ℕ → List (Row Op)) (s : List ℕ) (at : ℕ) where
-  if-operation : (t : Bool) → ltb at (length s) ≡ t →
-      IfOperation s at (cond t (rowAt s (at + 1) (getD s at 0 / 16 * 16) (table (getD s at 0 % 16))) noBytes)
-  if-operation true e = if-row s at (ltb-true at (length s) e) (getD s at 0 / 16 * 16) (table (getD s at 0 % 16))
-  if-operation false e = ltb-false at (length s) e
-
-  pub operation-read : {op : Op} {next : ℕ} → operationAt table s at ≡ operation op next → Within s at next
-  unfolding operationAt
-  operation-read e = subst (IfOperation s at) e (if-operation (ltb at (length s)) refl)
-
-  -- there is nothing only where no bytes are left
-  pub no-bytes-left : operationAt table s at ≡ noBytes → length s ≤ at
-  unfolding operationAt
-  no-bytes-left e = subst (IfOperation s at) e (if-operation (ltb at (length s)) refl)
+    -- there is nothing only where no bytes are left
+    pub no-bytes-left : operationAt table s at ≡ noBytes → length s ≤ at
+    no-bytes-left e = subst IfRead e if-operation
 
 -- ---- what is told of a parse determines it
 

@@ -1,11 +1,11 @@
 -- What the definitions say of a byte, by the tests that a parser makes: for `search`. Assumes noBytes.
 use Prim.Native.Nat.{ℕ, zero, suc, _+_, _*_, _/_, _%_, _≤_, _<_, zero-le}
-use mathlib.Core.Path.{_≡_, refl, ap, sym, _∙_}
-use mathlib.Core.Bool.{Bool, true, false, cond, _&&_}
+use mathlib.Core.Path.{_≡_, refl, sym, _∙_}
+use mathlib.Core.Bool.{Bool, true, false, _&&_}
 use mathlib.Core.List.{List, [], _∷_}
 use native.Mathlib.Omega.{arith}
 use borrow.Author.Tests.{lt-ltb, le-ltb, ltb-true, ne-eqb}
-use lib.Dec.{ltb, eqb}
+use lib.Dec.{ltb}
 use lib.IntN.{ℤ}
 use lib.ListN.{length, getD}
 use Rattle.numbers.specs.declared.Number.{Number}
@@ -15,7 +15,7 @@ use Rattle.numbers.specs.declared.leb128.Signed.the-variants as signed
 use Rattle.numbers.specs.declared.strings.Text.{Text}
 use Rattle.numbers.specs.declared.strings.Text.the-variants as text
 use Rattle.refusal.specs.declared.Refusal.the-variants.{UnknownOpcode, FaultyOperand}
-use Rattle.operations.specs.Table.{Parsed, operation, faulty, noBytes, Row, _⇒_, thenNumber, thenSigned, thenText, operandsAt, rowAt, operationAt}
+use Rattle.operations.specs.Table.{Parsed, faulty, noBytes, Row, _⇒_, thenNumber, thenSigned, thenText, rowAt, operationAt}
 
 -- ---- operands
 
@@ -62,7 +62,7 @@ at-least : (k n : ℕ) → NoneOf k n → k ≤ n
 at-least zero n h = zero-le
 at-least (suc k) n h = let l = at-least k n (h .0) in let d = h .1 in omega arith
 
-both : (a b : Bool) → a && b ≡ true → (a ≡ true) × (b ≡ true)
+pub both : (a b : Bool) → a && b ≡ true → (a ≡ true) × (b ≡ true)
 both true b e = (refl, e)
 both false b e = (e, cc)
 

@@ -1,23 +1,15 @@
 -- The name of a symbol that an operation of a bind stream sets lies in the stream, with its NUL behind it. Assumes nothing.
-use Prim.Native.Nat.{ℕ, _+_, _*_, _/_, _%_, _<_}
+use Prim.Native.Nat.{ℕ, _+_, _<_}
 use mathlib.Core.Path.{_≡_, refl, sym, subst}
-use mathlib.Core.Bool.{Bool, true, false, cond}
-use mathlib.Core.List.{List, [], _∷_}
+use mathlib.Core.List.{List}
 use native.Mathlib.Omega.{arith}
-use lib.Dec.{ltb, eqb}
-use lib.IntN.{ℤ}
-use lib.ListN.{length, getD}
-use Rattle.numbers.proofs.Laws.{StringRead, string-read}
+use lib.ListN.{length}
+use Rattle.numbers.proofs.Laws.{string-read}
 use Rattle.numbers.specs.Leb128.{ulebAt, slebAt}
 use Rattle.numbers.specs.Strings.{stringAt}
-use Rattle.numbers.specs.declared.Number.{Number}
-use Rattle.numbers.specs.declared.Number.the-variants as number
-use Rattle.numbers.specs.declared.leb128.Signed.{Signed}
-use Rattle.numbers.specs.declared.leb128.Signed.the-variants as signed
-use Rattle.numbers.specs.declared.strings.Text.{Text}
-use Rattle.numbers.specs.declared.strings.Text.the-variants as text
+use Rattle.operations.proofs.Cases.{Each, by-number, by-signed, by-text, by-table}
 use Rattle.operations.specs.Loader.{bindTable}
-use Rattle.operations.specs.Table.{Parsed, operation, faulty, noBytes, Operands, Row, _⇒_, thenNumber, thenSigned, thenText, operandsAt, rowAt, operationAt}
+use Rattle.operations.specs.Table.{Parsed, operation, faulty, noBytes, uleb, string, operandsAt, operationAt}
 use Rattle.operations.specs.declared.bind_operation.BindOperation.{BindOperation}
 use Rattle.operations.specs.declared.bind_operation.BindOperation.the-variants.{
   Done,
@@ -54,71 +46,43 @@ module _ (s : List ℕ) where
   IfNamed (faulty e) = Unit {0}
   IfNamed noBytes = Unit {0}
 
-  if-number : (x : Number) (go : ℕ → ℕ → Parsed BindOperation) → ((v next : ℕ) → IfNamed (go v next)) → IfNamed (thenNumber x go)
-  unfolding thenNumber
-  if-number (number.Value v next) go h = h v next
-  if-number number.Fault go h = tt
+  with-uleb : (at : ℕ) (make : ℕ → BindOperation) → ((v : ℕ) → NameIn (make v)) → IfNamed (operandsAt s at (uleb make))
+  with-uleb at make h = by-number IfNamed (λ e. tt) (ulebAt s at) _ (λ v next e. h v)
 
-  if-signed : (x : Signed) (go : ℤ → ℕ → Parsed BindOperation) → ((v : ℤ) (next : ℕ) → IfNamed (go v next)) → IfNamed (thenSigned x go)
-  unfolding thenSigned
-  if-signed (signed.Value v next) go h = h v next
-  if-signed signed.Fault go h = tt
+  named : (at imm : ℕ) → IfNamed (operandsAt s at (string (SetSymbol imm)))
+  named at imm =
+      by-text IfNamed (λ e. tt) (stringAt s at) _
+      (λ start len next e. let r = string-read s at (sym e) refl in omega (arith, r .ends, r .within .inside))
 
-  if-text : (at imm : ℕ) (x : Text) → stringAt s at ≡ x → IfNamed (thenText x (λ place length next. operation (SetSymbol imm place length) next))
-  unfolding thenText
-  if-text at imm (text.Found start len next) e =
-      let r = string-read s at (sym e) refl in
-      omega (arith, r .ends, r .within .inside)
-  if-text at imm text.Fault e = tt
-
-  module _ (at : ℕ) where
-    abbrev Each : List (Row BindOperation) → Type 0
-    Each [] = Unit {0}
-    Each (k ⇒ operands ∷ rows) = IfNamed (operandsAt s at operands) × Each rows
-
-    either : (t : Bool) (x y : Parsed BindOperation) → IfNamed x → IfNamed y → IfNamed (cond t x y)
-    either true x y p q = p
-    either false x y p q = q
-
-    if-row : (opcode : ℕ) (rows : List (Row BindOperation)) → Each rows → IfNamed (rowAt s at opcode rows)
-    unfolding rowAt
-    if-row opcode [] h = tt
-    if-row opcode (k ⇒ operands ∷ rows) h =
-        either (eqb opcode k) (operandsAt s at operands) (rowAt s at opcode rows) (h .0) (if-row opcode rows (h .1))
-
-    with-uleb : (make : ℕ → BindOperation) → ((v : ℕ) → NameIn (make v)) → IfNamed (thenNumber (ulebAt s at) (λ v next. operation (make v) next))
-    with-uleb make h = if-number (ulebAt s at) (λ v next. operation (make v) next) (λ v next. h v)
-
-    with-ulebs : (make : ℕ → ℕ → BindOperation) → ((v u : ℕ) → NameIn (make v u)) →
-        IfNamed (thenNumber (ulebAt s at) (λ v next. thenNumber (ulebAt s next) (λ u after. operation (make v u) after)))
-    with-ulebs make h =
-        if-number (ulebAt s at) (λ v next. thenNumber (ulebAt s next) (λ u after. operation (make v u) after))
-        (λ v next. if-number (ulebAt s next) (λ u after. operation (make v u) after) (λ u after. h v u))
-
-    with-sleb : (make : ℤ → BindOperation) → ((v : ℤ) → NameIn (make v)) → IfNamed (thenSigned (slebAt s at) (λ v next. operation (make v) next))
-    with-sleb make h = if-signed (slebAt s at) (λ v next. operation (make v) next) (λ v next. h v)
-
-    -- row by row
-    each : (imm : ℕ) → Each (bindTable imm)
-    each imm = (
+  -- row by row
+  rows : (at imm : ℕ) → Each IfNamed (λ e. tt) s at (bindTable imm)
+  rows at imm = (
+    tt,
+    (
       tt,
       (
-        tt,
+        with-uleb at SetDylibOrdinal (λ v. tt),
         (
-          with-uleb SetDylibOrdinal (λ v. tt),
+          tt,
           (
-            tt,
+            named at imm,
             (
-              if-text at imm (stringAt s at) refl,
+              tt,
               (
-                tt,
+                by-signed IfNamed (λ e. tt) (slebAt s at) _ (λ v next e. tt),
                 (
-                  with-sleb SetAddend (λ v. tt),
+                  with-uleb at (SetSegmentAndOffset imm) (λ v. tt),
                   (
-                    with-uleb (SetSegmentAndOffset imm) (λ v. tt),
+                    with-uleb at AddAddr (λ v. tt),
                     (
-                      with-uleb AddAddr (λ v. tt),
-                      (tt, (with-uleb DoBindAddAddr (λ v. tt), (tt, (with-ulebs DoBindTimesSkipping (λ v u. tt), tt)))),
+                      tt,
+                      (
+                        with-uleb at DoBindAddAddr (λ v. tt),
+                        (
+                          tt,
+                          (by-number IfNamed (λ e. tt) (ulebAt s at) _ (λ v next e. by-number IfNamed (λ e. tt) (ulebAt s next) _ (λ u after f. tt)), tt),
+                        ),
+                      ),
                     ),
                   ),
                 ),
@@ -127,13 +91,8 @@ module _ (s : List ℕ) where
           ),
         ),
       ),
-    )
+    ),
+  )
 
-  module _ (at : ℕ) where
-    if-operation : (t : Bool) → IfNamed (cond t (rowAt s (at + 1) (getD s at 0 / 16 * 16) (bindTable (getD s at 0 % 16))) noBytes)
-    if-operation true = if-row (at + 1) (getD s at 0 / 16 * 16) (bindTable (getD s at 0 % 16)) (each (at + 1) (getD s at 0 % 16))
-    if-operation false = tt
-
-    pub symbol-read : {op : BindOperation} {next : ℕ} → operationAt bindTable s at ≡ operation op next → NameIn op
-    unfolding operationAt
-    symbol-read e = subst IfNamed e (if-operation (ltb at (length s)))
+  pub symbol-read : (at : ℕ) {op : BindOperation} {next : ℕ} → operationAt bindTable s at ≡ operation op next → NameIn op
+  symbol-read at e = subst IfNamed e (by-table IfNamed (λ e. tt) bindTable s at (λ h imm. rows (at + 1) imm) (λ h. tt))

@@ -1,6 +1,6 @@
 -- What an operation does, by a match on it: for `search`. Assumes nothing.
 use Prim.Native.Nat.{ℕ, _*_}
-use mathlib.Core.Path.{_≡_, refl, ap, sym, _∙_}
+use mathlib.Core.Path.{_≡_, ap, _∙_}
 use Rattle.cursor.specs.declared.Motion.the-variants.{Adds}
 use Rattle.listing.specs.Machine.{Effect, _and_}
 use Rattle.operations.specs.declared.rebase_operation.RebaseOperation.{RebaseOperation}

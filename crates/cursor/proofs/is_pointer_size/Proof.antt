@@ -1,7 +1,6 @@
 -- `cursor::is_pointer_size` meets its contract. Assumes nothing.
 use borrow.Author.Needs.{needs}
 use borrow.Author.Tests.{ne-eqb}
-use mathlib.Core.Bool.{_||_}
 use Rattle.cursor.proofs.Turns.{size-four}
 use Rattle.cursor.proofs.is_pointer_size.Statement.{statement}
 use Rattle.cursor.proofs.is_pointer_size.Tie as tie

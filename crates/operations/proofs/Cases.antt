@@ -1,0 +1,68 @@
+-- What holds of each row of a table holds of the operation at a place. Assumes nothing.
+use Prim.Native.Nat.{ℕ, _+_, _*_, _/_, _%_, _≤_, _<_}
+use mathlib.Core.Path.{_≡_, refl}
+use mathlib.Core.Bool.{Bool, true, false, cond}
+use mathlib.Core.List.{List, [], _∷_}
+use borrow.Author.Tests.{ltb-true, ltb-false}
+use lib.Dec.{ltb, eqb}
+use lib.IntN.{ℤ}
+use lib.ListN.{length, getD}
+use Rattle.numbers.specs.declared.Number.{Number}
+use Rattle.numbers.specs.declared.Number.the-variants as number
+use Rattle.numbers.specs.declared.leb128.Signed.{Signed}
+use Rattle.numbers.specs.declared.leb128.Signed.the-variants as signed
+use Rattle.numbers.specs.declared.strings.Text.{Text}
+use Rattle.numbers.specs.declared.strings.Text.the-variants as text
+use Rattle.operations.specs.Table.{Parsed, faulty, noBytes, Operands, Row, _⇒_, thenNumber, thenSigned, thenText, operandsAt, rowAt, operationAt}
+use Rattle.refusal.specs.declared.Refusal.{Refusal}
+use Rattle.refusal.specs.declared.Refusal.the-variants.{UnknownOpcode, FaultyOperand}
+
+module _ {Op : Type 0} (P : Parsed Op → Type 0) (bad : (e : Refusal) → P (faulty e)) where
+  -- ---- operands, by what was read
+
+  pub by-number : (x : Number) (go : ℕ → ℕ → Parsed Op) → ((v next : ℕ) → x ≡ number.Value v next → P (go v next)) → P (thenNumber x go)
+  unfolding thenNumber
+  by-number (number.Value v next) go h = h v next refl
+  by-number number.Fault go h = bad FaultyOperand
+
+  pub by-signed : (x : Signed) (go : ℤ → ℕ → Parsed Op) → ((v : ℤ) (next : ℕ) → x ≡ signed.Value v next → P (go v next)) → P (thenSigned x go)
+  unfolding thenSigned
+  by-signed (signed.Value v next) go h = h v next refl
+  by-signed signed.Fault go h = bad FaultyOperand
+
+  pub by-text : (x : Text) (go : ℕ → ℕ → ℕ → Parsed Op) → ((start len next : ℕ) → x ≡ text.Found start len next → P (go start len next)) → P (thenText x go)
+  unfolding thenText
+  by-text (text.Found start len next) go h = h start len next refl
+  by-text text.Fault go h = bad FaultyOperand
+
+  -- ---- rows
+
+  either : (t : Bool) (x y : Parsed Op) → P x → P y → P (cond t x y)
+  either true x y p q = p
+  either false x y p q = q
+
+  module _ (s : List ℕ) (at : ℕ) where
+    abbrev pub Each : List (Row Op) → Type 0
+    Each [] = Unit {0}
+    Each (k ⇒ operands ∷ rows) = P (operandsAt s at operands) × Each rows
+
+    pub each : ((operands : Operands Op) → P (operandsAt s at operands)) → (rows : List (Row Op)) → Each rows
+    each h [] = tt
+    each h (k ⇒ operands ∷ rows) = (h operands, each h rows)
+
+    by-row : (opcode : ℕ) (rows : List (Row Op)) → Each rows → P (rowAt s at opcode rows)
+    unfolding rowAt
+    by-row opcode [] h = bad UnknownOpcode
+    by-row opcode (k ⇒ operands ∷ rows) h =
+        either (eqb opcode k) (operandsAt s at operands) (rowAt s at opcode rows) (h .0) (by-row opcode rows (h .1))
+
+  module _ (table : ℕ → List (Row Op)) (s : List ℕ) (at : ℕ) (rows : at < length s → (imm : ℕ) → Each s (at + 1) (table imm)) (none : length s ≤ at → P noBytes) where
+    by-test : (t : Bool) → ltb at (length s) ≡ t →
+        P (cond t (rowAt s (at + 1) (getD s at 0 / 16 * 16) (table (getD s at 0 % 16))) noBytes)
+    by-test true e =
+        by-row s (at + 1) (getD s at 0 / 16 * 16) (table (getD s at 0 % 16)) (rows (ltb-true at (length s) e) (getD s at 0 % 16))
+    by-test false e = none (ltb-false at (length s) e)
+
+    pub by-table : P (operationAt table s at)
+    unfolding operationAt
+    by-table = by-test (ltb at (length s)) refl
