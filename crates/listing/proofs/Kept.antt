@@ -4,16 +4,15 @@ use mathlib.Core.Path.{_≡_, refl, sym, _∙_, subst}
 use mathlib.Core.List.{List}
 use mathlib.Core.Bool.{Bool, true, false, cond}
 use lib.ListN.{length}
-use Rattle.cursor.specs.Cursor.{inRange, liveStanding, standingOf, markedEnded, movedOf}
+use Rattle.cursor.specs.Cursor.{inRange, liveStanding, standingOf, markedEnded}
 use Rattle.cursor.specs.declared.Cursor.{Cursor}
 use Rattle.cursor.specs.declared.Lack.{Lack}
-use Rattle.cursor.specs.declared.Lack.the-variants.{Nothing, Lacks}
 use Rattle.cursor.specs.declared.Moved.{Moved}
-use Rattle.cursor.specs.declared.Moved.the-variants as moved
 use Rattle.cursor.specs.declared.Standing.the-variants as standing
-use Rattle.listing.specs.Call.{State, state, Answer, item, end, refused, due, answered, read, called, call}
+use Rattle.listing.specs.Call.{State, state, Answer, item, end, refused, called, call}
 use Rattle.listing.specs.Machine.{Machine}
-use Rattle.listing.specs.Stream.{Stream, out, bad, one, streamAt}
+use Rattle.listing.specs.Stream.{streamAt}
+use Rattle.listing.proofs.Answers.{Keeps, by-due, by-read}
 use Rattle.listing.proofs.Runs.{call-by}
 
 module _ (M : Machine) (w : State (M .Reg)) where
@@ -25,31 +24,19 @@ module _ (M : Machine) (w : State (M .Reg)) where
   IfRefused (end v) = Unit {0}
   IfRefused (refused e v) = v ≡ ended
 
-  refused-due : (o : ℕ) (behind : State (M .Reg)) (l : Lack) → IfRefused (due M w o behind l)
-  unfolding due
-  refused-due o behind Nothing = tt
-  refused-due o behind (Lacks e) = refl
-
-  refused-moved : (o : ℕ) (g : M .Reg) (rest : State (M .Reg) → Answer (M .Reg) (M .Item)) → ((v : State (M .Reg)) → IfRefused (rest v)) →
-      (m : Moved) → IfRefused (answered M w o g rest m)
-  unfolding answered
-  refused-moved o g rest h (moved.On c) = h (state c g)
-  refused-moved o g rest h (moved.Due c) = refused-due o (state c g) (M .lack g)
-  refused-moved o g rest h (moved.End c) = tt
-  refused-moved o g rest h (moved.Refused e) = refl
-
-  refused-read : (xs : Stream (M .Op)) (v : State (M .Reg)) → IfRefused (read M w xs v)
-  unfolding read
-  refused-read out v = tt
-  refused-read (bad e position) v = refl
-  refused-read (one position op next rest) v =
-      let did = M .effect (v .cursor .size) op (v .registers) in
-      refused-moved (v .cursor .offset) (did .registers) (read M w rest) (λ u. refused-read rest u) (movedOf (v .cursor) next (did .motion))
-
   module _ (s : List ℕ) where
+    -- nothing is asked of the registers
+    abbrev Any : M .Reg → Type 0
+    Any g = Unit {0}
+
+    anyhow : Keeps M s Any
+    anyhow size at next op g e p = tt
+
     refused-live : (n : ℕ) → IfRefused (called M w s (liveStanding (w .cursor) n))
-    refused-live zero = refused-read (streamAt M s (w .cursor .at)) w
-    refused-live (suc n) = refused-due (w .cursor .offset) _ (M .lack (w .registers))
+    refused-live zero =
+        by-read M s Any anyhow w IfRefused (λ o v p. tt) (λ v p. tt) (λ e. refl) (streamAt M s (w .cursor .at)) (w .cursor .at) refl w tt
+    refused-live (suc n) =
+        by-due M s Any anyhow w IfRefused (λ o v p. tt) (λ v p. tt) (λ e. refl) (w .cursor .offset) _ tt (M .lack (w .registers))
 
     refused-in-range : (d : Bool) → IfRefused (called M w s (cond d standing.Ended (liveStanding (w .cursor) (w .cursor .remaining))))
     refused-in-range true = tt

@@ -3,17 +3,17 @@ ghost use mathlib.Core.Path.{_≡_};
 ghost use lib.IntN.{natAbs};
 use libc::STDOUT_FILENO;
 
-pub fn say(text: &[u8]) {
+pub(crate) fn say(text: &[u8]) {
     io::write_all(STDOUT_FILENO, text);
 }
 
-pub fn decimal(what: &[u8], n: u64) {
+pub(crate) fn decimal(what: &[u8], n: u64) {
     say(what);
     say(b" ");
     io::print_decimal(STDOUT_FILENO, n);
 }
 
-pub fn signed(what: &[u8], value: i64) {
+pub(crate) fn signed(what: &[u8], value: i64) {
     if value < 0 {
         say(what);
         say(b" -");
@@ -32,7 +32,7 @@ fn magnitude(value: i64) -> u64
     value as u64
 }
 
-pub fn bytes(s: &[u8]) {
+pub(crate) fn bytes(s: &[u8]) {
     let mut at = 0;
     while at < s.len() {
         byte(s[at]);

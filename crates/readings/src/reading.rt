@@ -7,7 +7,7 @@ use numbers::Number;
 use numbers::leb128::Signed;
 use numbers::strings::Text;
 
-pub fn samples() {
+pub(crate) fn samples() {
     examples();
     limits();
     places();

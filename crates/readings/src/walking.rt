@@ -13,7 +13,7 @@ use rebase::RebaseStep;
 use rebase::RebaseWalk;
 use refusal::Refusal;
 
-pub fn samples() {
+pub(crate) fn samples() {
     rebases();
     repeats();
     plain_binds();
