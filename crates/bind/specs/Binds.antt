@@ -6,7 +6,7 @@ use lib.IntN.{ℤ, pos, negℤ}
 use Rattle.cursor.specs.declared.Lack.{Lack}
 use Rattle.cursor.specs.declared.Lack.the-variants.{Nothing, Lacks}
 use Rattle.cursor.specs.declared.Motion.the-variants.{Stays, Adds, Seeks, Restarts, Repeats, Ends, Refuses}
-use Rattle.listing.specs.Machine.{Effect, _and_, Machine}
+use Rattle.listing.specs.Machine.{Effect, _and_, Place, Machine}
 use Rattle.operations.specs.Loader.{bindTable}
 use Rattle.operations.specs.declared.bind_operation.BindOperation.{BindOperation}
 use Rattle.operations.specs.declared.bind_operation.BindOperation.the-variants.{
@@ -190,6 +190,9 @@ itemOf g offset =
       addend = g .addend;
     }
 
+abbrev pub placeOf : Bind → Place
+placeOf x = record { segment = x .segment; offset = x .offset; kind = x .kind }
+
 abbrev pub binds : Machine
 binds =
     record {
@@ -200,4 +203,5 @@ binds =
       effect = effectOf;
       lack = lackOf;
       item = itemOf;
+      place = placeOf;
     }

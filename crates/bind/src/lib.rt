@@ -64,9 +64,10 @@ pub enum BindStep {
     Refused(Refusal, BindWalk),
 }
 
-struct BindEffect {
-    registers: Registers,
-    motion: Motion,
+// What an operation does: the registers from now on, and what becomes of the place.
+pub struct BindEffect {
+    pub registers: Registers,
+    pub motion: Motion,
 }
 
 impl Bind {
@@ -110,7 +111,7 @@ impl Registers {
     }
 
     // What an operation does.
-    fn effect(self, size: u8, op: BindOperation) -> BindEffect
+    pub fn effect(self, size: u8, op: BindOperation) -> BindEffect
         ensures { λ r. ⌜ effectTold r ≡ effectOf size op self ⌝ }
     {
         let mut g = self;
@@ -194,7 +195,7 @@ impl Registers {
     }
 
     // What a place that is due lacks.
-    fn lack(self) -> Lack
+    pub fn lack(self) -> Lack
         ensures { λ r. ⌜ r ≡ lackOf self ⌝ }
     {
         if self.segmented {

@@ -1,5 +1,5 @@
 -- What an operation does to the place, and what that comes to at an offset. Offsets and advances are numbers modulo 2^64.
-use Prim.Native.Nat.{ℕ, zero, suc, _+_, _*_, _%_, _^_}
+use Prim.Native.Nat.{ℕ, zero, suc, _+_, _%_, _^_}
 use Rattle.cursor.specs.declared.Motion.{Motion}
 use Rattle.cursor.specs.declared.Motion.the-variants.{Stays, Adds, Seeks, Restarts, Repeats, Ends, Refuses}
 use Rattle.cursor.specs.declared.Turn.{Turn}
@@ -8,10 +8,6 @@ use Rattle.cursor.specs.declared.Turn.the-variants.{On, Anew, Due, End, 
 -- each place yielded advances the offset by the pointer size plus the operation's addition
 abbrev pub advanceOf : (size addition : ℕ) → ℕ
 advanceOf size addition = (size + addition) % 2 ^ 64
-
--- place i of a repeat whose place 0 is at an offset
-unfoldable pub placeAt : (offset advance i : ℕ) → ℕ
-placeAt offset advance i = (offset + i * advance) % 2 ^ 64
 
 -- the stream goes on at an offset, or anew as from a start; places are due, one and so many more; the end; a refusal. (An offset that is
 -- read from a stream is below 2^64, and so itself.)

@@ -66,7 +66,7 @@ pub enum Lack {
 
 impl Motion {
     // The turn of a stream at a pointer size and an offset.
-    fn turned(self, size: u8, offset: u64) -> Turn
+    pub fn turned(self, size: u8, offset: u64) -> Turn
         ensures { λ r. ⌜ r ≡ turnOf size offset self ⌝ }
     {
         match self {

@@ -5,10 +5,10 @@ use mathlib.Core.List.{List}
 use mathlib.Core.Bool.{Bool, true, false, cond}
 use native.Mathlib.Omega.{arith}
 use lib.ListN.{length}
-use Rattle.cursor.proofs.Places.{place-first, place-next, place-below, Bounded, bounded}
+use Rattle.cursor.proofs.Bounds.{Bounded, bounded}
 use Rattle.cursor.proofs.Turns.{stands-live}
 use Rattle.cursor.specs.Cursor.{isPointerSize, atStart, startOf}
-use Rattle.cursor.specs.Motion.{placeAt, turnOf}
+use Rattle.cursor.specs.Motion.{turnOf}
 use Rattle.cursor.specs.declared.Lack.{Lack}
 use Rattle.cursor.specs.declared.Lack.the-variants.{Nothing, Lacks}
 use Rattle.cursor.specs.declared.Start.the-variants as start
@@ -21,6 +21,8 @@ use Rattle.listing.specs.Runs.{Run, gives, Walks, heard}
 use Rattle.listing.specs.Stream.{Stream, out, bad, one, streamAt}
 use Rattle.refusal.specs.declared.Refusal.the-variants.{PointerSize}
 use Rattle.listing.proofs.Runs.{InRange, live, runs, runDue, runTurn, runOps, runBy, runOf, walks-all, walks-one}
+use Rattle.places.proofs.Places.{place-first, place-next, place-below}
+use Rattle.places.specs.Places.{placeAt}
 
 module _ (M : Machine) where
   -- places i .. i + n - 1 of a repeat; m is the number of all its places

@@ -5,7 +5,7 @@ use mathlib.Core.List.{List}
 use mathlib.Core.Bool.{Bool, true, false}
 use native.Mathlib.Omega.{arith}
 use lib.ListN.{length}
-use Rattle.cursor.proofs.Places.{Bounded, bounded}
+use Rattle.cursor.proofs.Bounds.{Bounded, bounded}
 use Rattle.cursor.specs.Cursor.{isPointerSize, inRange, movedBy}
 use Rattle.cursor.specs.Motion.{turnOf}
 use Rattle.cursor.specs.declared.Cursor.{Cursor}

@@ -1,13 +1,14 @@
 -- What a stream lists: its entries in order, each with the byte position of its operation and its index in the repeat, and how it ends.
 use Prim.Native.Nat.{ℕ, zero, suc}
 use mathlib.Core.List.{List}
-use Rattle.cursor.specs.Motion.{placeAt, turnOf}
+use Rattle.cursor.specs.Motion.{turnOf}
 use Rattle.cursor.specs.declared.Lack.{Lack}
 use Rattle.cursor.specs.declared.Lack.the-variants.{Nothing, Lacks}
 use Rattle.cursor.specs.declared.Turn.{Turn}
 use Rattle.cursor.specs.declared.Turn.the-variants.{On, Anew, Due, End, Refused}
 use Rattle.listing.specs.Machine.{Machine}
 use Rattle.listing.specs.Stream.{Stream, out, bad, one, streamAt}
+use Rattle.places.specs.Places.{placeAt}
 use Rattle.refusal.specs.Numbers.{numberOf}
 
 pub data Listing (Item : Type 0) : Type 0 where

@@ -1,4 +1,4 @@
--- A kind of opcode stream: its table of opcodes, what each operation does, and what a place gives. The registers are what a walk keeps
+-- A kind of opcode stream: its table of opcodes, what each operation does, and what a place gives and where it is. The registers are what a walk keeps
 -- beside its cursor: what operations have set but for the offset, and what kind of walk it is.
 use Prim.Native.Nat.{ℕ}
 use mathlib.Core.List.{List}
@@ -15,6 +15,12 @@ infix 20 _and_
 abbrev pub _and_ : {Reg : Type 0} → Reg → Motion → Effect Reg
 g and m = record { registers = g; motion = m }
 
+-- where an item lies, and its type
+pub record Place : Type 0 where
+  pub segment : ℕ
+  pub offset : ℕ
+  pub kind : ℕ
+
 pub record Machine : Type 1 where
   pub Op : Type 0
   pub Reg : Type 0
@@ -23,3 +29,4 @@ pub record Machine : Type 1 where
   pub effect : (size : ℕ) → Op → Reg → Effect Reg
   pub lack : Reg → Lack  -- of a place that is due
   pub item : Reg → (offset : ℕ) → Item
+  pub place : Item → Place

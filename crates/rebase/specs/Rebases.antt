@@ -4,7 +4,7 @@ use mathlib.Core.Bool.{true, false, cond}
 use Rattle.cursor.specs.declared.Lack.{Lack}
 use Rattle.cursor.specs.declared.Lack.the-variants.{Nothing, Lacks}
 use Rattle.cursor.specs.declared.Motion.the-variants.{Stays, Adds, Seeks, Repeats, Ends}
-use Rattle.listing.specs.Machine.{Effect, _and_, Machine}
+use Rattle.listing.specs.Machine.{Effect, _and_, Place, Machine}
 use Rattle.operations.specs.Loader.{rebaseTable}
 use Rattle.operations.specs.declared.rebase_operation.RebaseOperation.{RebaseOperation}
 use Rattle.operations.specs.declared.rebase_operation.RebaseOperation.the-variants.{
@@ -53,6 +53,9 @@ lackOf g = cond (g .segmented) (cond (g .typed) Nothing (Lacks NoType)) (Lacks N
 abbrev pub itemOf : Registers → (offset : ℕ) → Rebase
 itemOf g offset = record { segment = g .segment; offset = offset; kind = g .kind }
 
+abbrev pub placeOf : Rebase → Place
+placeOf x = record { segment = x .segment; offset = x .offset; kind = x .kind }
+
 abbrev pub rebases : Machine
 rebases =
     record {
@@ -63,4 +66,5 @@ rebases =
       effect = effectOf;
       lack = lackOf;
       item = itemOf;
+      place = placeOf;
     }

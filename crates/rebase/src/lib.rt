@@ -48,14 +48,15 @@ pub enum RebaseStep {
     Refused(Refusal, RebaseWalk),
 }
 
-struct RebaseEffect {
-    registers: Registers,
-    motion: Motion,
+// What an operation does: the registers from now on, and what becomes of the place.
+pub struct RebaseEffect {
+    pub registers: Registers,
+    pub motion: Motion,
 }
 
 impl Registers {
     // What an operation does.
-    fn effect(self, size: u8, op: RebaseOperation) -> RebaseEffect
+    pub fn effect(self, size: u8, op: RebaseOperation) -> RebaseEffect
         ensures { λ r. ⌜ effectTold r ≡ effectOf size op self ⌝ }
     {
         let mut g = self;
@@ -95,7 +96,7 @@ impl Registers {
     }
 
     // What a place that is due lacks.
-    fn lack(self) -> Lack
+    pub fn lack(self) -> Lack
         ensures { λ r. ⌜ r ≡ lackOf self ⌝ }
     {
         if self.segmented {

@@ -1,7 +1,7 @@
 -- Every worked example holds of the definitions, by computation. Assumes nothing.
 use mathlib.Core.Path.{_≡_, refl}
 use mathlib.Core.List.{map}
-use Rattle.cursor.specs.Motion.{placeAt, turnOf}
+use Rattle.cursor.specs.Motion.{turnOf}
 use Rattle.listing.specs.Listing.{places, repeated, listed, listingOf, listing}
 use Rattle.listing.specs.Runs.{heard}
 use Rattle.listing.specs.Stream.{before, streamIn, streamAt}
@@ -11,6 +11,7 @@ use Rattle.numbers.specs.Parts.{partOf}
 use Rattle.numbers.specs.Runs.{runTo}
 use Rattle.numbers.specs.Strings.{stringAt}
 use Rattle.operations.specs.Table.{thenNumber, thenSigned, thenText, rowAt, operationAt}
+use Rattle.places.specs.Places.{placeAt}
 use Rattle.worked.specs.Examples.{allNamed, examples, defined, documented}
 
 pub examples-hold : map defined examples ≡ map documented examples

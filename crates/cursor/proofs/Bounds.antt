@@ -1,25 +1,11 @@
--- The places of a repeat, one after the other; and offsets stay below 2^64. Assumes nothing.
+-- Offsets stay below 2^64. Assumes nothing.
 use Prim.Native.Nat.{ℕ, zero, suc, _+_, _%_, _^_, _<_}
-use mathlib.Core.Path.{_≡_}
 use native.Mathlib.Omega.{arith}
-use Rattle.cursor.specs.Motion.{placeAt, turnOf}
+use Rattle.cursor.specs.Motion.{turnOf}
 use Rattle.cursor.specs.declared.Motion.{Motion}
 use Rattle.cursor.specs.declared.Motion.the-variants.{Stays, Adds, Seeks, Restarts, Repeats, Ends, Refuses}
 use Rattle.cursor.specs.declared.Turn.{Turn}
 use Rattle.cursor.specs.declared.Turn.the-variants.{On, Anew, Due, End, Refused}
-
-module _ (offset advance : ℕ) where
-  pub place-first : offset < 2 ^ 64 → placeAt offset advance 0 ≡ offset
-  unfolding placeAt
-  place-first h = omega arith
-
-  pub place-next : (i : ℕ) → placeAt offset advance (suc i) ≡ (placeAt offset advance i + advance) % 2 ^ 64
-  unfolding placeAt
-  place-next i = omega arith
-
-  pub place-below : (i : ℕ) → placeAt offset advance i < 2 ^ 64
-  unfolding placeAt
-  place-below i = omega arith
 
 abbrev pub Bounded : Turn → Type 0
 Bounded (On offset) = offset < 2 ^ 64

@@ -1,0 +1,4 @@
+pub mod Places
+pub mod Search
+pub mod Steps
+pub mod Judgements

@@ -1,0 +1,6 @@
+pub mod Small
+pub mod Verdicts
+pub mod Flights
+pub mod Loops
+pub mod Machines
+pub mod Unique

@@ -1,0 +1,3 @@
+pub mod Verdict
+pub mod Flown
+pub mod Told

@@ -1,0 +1,73 @@
+// What one operation comes to in a preflight, whatever the kind of stream.
+ghost use mathlib.Core.Path.{_≡_};
+ghost use Rattle.cursor.specs.Motion.{turnOf};
+ghost use Rattle.preflight.specs.Flown.{flownPlaces, flownDue, flownOf};
+ghost use Rattle.preflight.specs.Verdict.{widthOf};
+use cursor::Lack;
+use cursor::Motion;
+use cursor::Turn;
+use places::Judged;
+use refusal::Refusal;
+
+// What is known of places that are due: the pointer size, what they lack, their segment and their type.
+pub(crate) struct Spot {
+    pub(crate) size: u8,
+    pub(crate) lack: Lack,
+    pub(crate) segment: u8,
+    pub(crate) kind: u8,
+}
+
+// The stream goes on at an offset; it ends, and passes; or there is a fault, at an index of the repeat.
+pub(crate) enum Flown {
+    On(u64),
+    Pass,
+    Fault(Refusal, u64),
+}
+
+impl Spot {
+    // What a motion comes to, at an offset, for the sizes of the segments.
+    pub(crate) fn fly(self, motion: Motion, offset: u64, sizes: &[u64]) -> Flown
+        ensures { λ r. ⌜ r ≡ flownOf self offset (now (sizes .entry)) (turnOf (self .size) offset motion) ⌝ }
+    {
+        match motion.turned(self.size, offset) {
+            Turn::On(to) => Flown::On(to),
+            Turn::Anew => Flown::On(0),
+            Turn::Due(left, advance) => self.due(offset, advance, left, sizes),
+            Turn::End => Flown::Pass,
+            Turn::Refused(e) => Flown::Fault(e, 0),
+        }
+    }
+
+    // A place that is due at an offset, and `left` more.
+    fn due(self, offset: u64, advance: u64, left: u64, sizes: &[u64]) -> Flown
+        ensures { λ r. ⌜ r ≡ flownDue self offset advance left (now (sizes .entry)) (self .lack) ⌝ }
+    {
+        let lack = self.lack;
+        match lack {
+            Lack::Nothing => self.judge(offset, advance, left, sizes),
+            Lack::Lacks(e) => Flown::Fault(e, 0),
+        }
+    }
+
+    // Places that lack nothing, judged together.
+    fn judge(self, offset: u64, advance: u64, left: u64, sizes: &[u64]) -> Flown
+        ensures { λ r. ⌜ r ≡ flownPlaces self offset advance left (now (sizes .entry)) ⌝ }
+    {
+        let i = self.segment as usize;
+        if sizes.len() <= i {
+            return Flown::Fault(Refusal::PlaceOutside, 0);
+        }
+        match places::judge(offset, advance, left, self.width(), sizes[i]) {
+            Judged::Inside(behind) => Flown::On(behind),
+            Judged::Outside(index) => Flown::Fault(Refusal::PlaceOutside, index),
+            Judged::TooLarge => Flown::Fault(Refusal::UnfitSizes, 0),
+        }
+    }
+
+    // The width of a place.
+    fn width(self) -> u64
+        ensures { λ r. ⌜ r ≡ widthOf (self .size) (self .kind) ⌝ }
+    {
+        self.size as u64
+    }
+}
