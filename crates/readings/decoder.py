@@ -2,7 +2,8 @@
 """Prints what the samples of src/ are, for the file `stdout`: a second reading of the same bytes.
 
 LEB128 is decoded by shifts and masks on Python's unbounded integers, with the rules for a tenth byte; strings, fields and parts
-are Python's own `find`, `int.from_bytes` and slices. Streams are walked by one function a kind of operation, on a dictionary.
+are Python's own `find`, `int.from_bytes` and slices. Streams are walked by one function a kind of operation, on a dictionary. The first
+place outside is the least solution of an inequality modulo 2^64, by Euclid's steps, for steps and sizes of any kind.
 Nothing here is taken from the Rattle code but the samples themselves.
 """
 import pathlib
@@ -173,6 +174,15 @@ class Walk:
             raise Refused(2)
         return False
 
+    def operation(self, byte):
+        """Whether the operation whose byte this is, and which is behind it, says the end."""
+        return (self.rebase if self.kind == "rebase" else self.bind)(byte & 0xF0, byte & 0x0F)
+
+    def lacks(self):
+        for refusal, mark in (5, "segment"), (6, "type"), (7, "library"), (8, "place"):
+            if mark not in self.marks and (refusal < 7 or self.kind != "rebase"):
+                raise Refused(refusal)
+
     def answer(self, data):
         """What a call says; the walk is then in the next state."""
         if self.at > len(data):
@@ -186,11 +196,9 @@ class Walk:
                     return "  end"
                 byte = data[self.at]
                 self.at += 1
-                if (self.rebase if self.kind == "rebase" else self.bind)(byte & 0xF0, byte & 0x0F):
+                if self.operation(byte):
                     return "  end"
-            for refusal, mark in (5, "segment"), (6, "type"), (7, "library"), (8, "place"):
-                if mark not in self.marks and (refusal < 7 or self.kind != "rebase"):
-                    raise Refused(refusal)
+            self.lacks()
         except Refused as e:
             self.__dict__.update(given)
             self.ended = True
@@ -226,6 +234,75 @@ def walked(kind, size, data):
     return "\n".join([title] + [walk.answer(lent) + walk.state() for lent in [data] * 5 + [b""]])
 
 
+# ---- preflights
+
+
+def least(a, m, low, high):
+    """The least x with low <= a * x % m <= high, or None."""
+    if low == 0:
+        return 0
+    a %= m
+    if a == 0:
+        return None
+    x = -(-low // a)
+    if a * x <= high:
+        return x
+    y = least(m % a, a, -high % a, -low % a)
+    return None if y is None else -(-(low + m * y) // a)
+
+
+def first_outside(offset, advance, count, width, size):
+    """The index of the first place that ends beyond the size, or None."""
+    low = max(size - width + 1, 0)
+    x = 0 if offset >= low else least(advance, 2**64, low - offset, 2**64 - 1 - offset)
+    return None if x is None or x >= count else x
+
+
+def judge(offset, advance, left, width, size):
+    said = f"from {offset} by {advance} and {left} more of {width} in {size}: "
+    if size > 2**62:
+        return said + "too large"
+    index = first_outside(offset, advance, left + 1, width, size)
+    if index is None:
+        return said + f"inside, then {(offset + (left + 1) * advance) % 2**64}"
+    return said + f"outside, place {index}"
+
+
+def flown(kind, size, data, sizes):
+    """Number, position and index of the first fault, or how many operations were read."""
+    if size not in (4, 8):
+        return 1, 0, 0
+    if len(sizes) > 16 or max(sizes, default=0) > 2**62:
+        return 21, 0, 0
+    walk, operations = Walk(kind, size), 0
+    walk.data = data
+    while walk.at < len(data):
+        operations, position, byte = operations + 1, walk.at, data[walk.at]
+        walk.at += 1
+        try:
+            if walk.operation(byte):
+                break
+            if walk.left:
+                walk.lacks()
+                bound = sizes[walk.segment] if walk.segment < len(sizes) else -1
+                index = first_outside(walk.offset, walk.by, walk.left, size, bound)
+                if index is not None:
+                    return 20, position, index
+                walk.add(walk.left * walk.by)
+                walk.left = 0
+        except Refused as e:
+            return int(str(e)), position, 0
+    return operations
+
+
+def preflight(kind, size, data, sizes):
+    said = f"preflight {kind} {size}:{shown(data)}; sizes" + "".join(f" {n}" for n in sizes)
+    verdict = flown(kind, size, data, sizes)
+    if isinstance(verdict, int):
+        return said + f"; passes, operations {verdict}"
+    return said + "; fault {} at {} place {}".format(*verdict)
+
+
 # ---- the samples
 
 
@@ -237,3 +314,9 @@ for how, text, places in samples("reading.rt", r'^    (reading|part)\((b"[^"]*")
     print(globals()[how](eval(text), *(int(n) for n in places.split(","))))
 for kind, size, text in samples("walking.rt", r'^    (rebase|plain|weak|lazy)\(\s*([0-9]+),\s*(b"[^"]*"),?\s*\);$'):
     print(walked(kind, int(size), eval(text)))
+for numbers in samples("flying.rt", r"^    judge\(\s*([0-9, \n]+)\);$"):
+    print(judge(*eval(f"[{numbers}]")))
+for kind, size, text, sizes in samples(
+    "flying.rt", r'^    (rebase|plain|weak|lazy)s?\(\s*([0-9]+),\s*(b"[^"]*"),\s*&\[([0-9, \n]*)\],?\s*\);$'
+):
+    print(preflight(kind, int(size), eval(text), eval(f"[{sizes}]")))

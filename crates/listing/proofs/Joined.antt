@@ -89,6 +89,9 @@ module _ (M : Machine) where
           by-size true z f = record { sized = z; is = cc }
           by-size false z f = let q : _≡_ {A = ℕ} 0 1 = cc in absurd (omega arith)
 
+      pub begun-sized : {w : State (M .Reg)} → begin size g ≡ begun w → isPointerSize size ≡ true
+      begun-sized e = begun-is e .sized
+
       -- calls from a start on say what the stream lists
       pub joined : (w : State (M .Reg)) → begin size g ≡ begun w → Walks M s w (heard (listing M size g s))
       unfolding listing

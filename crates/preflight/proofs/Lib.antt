@@ -4,3 +4,4 @@ pub mod Flights
 pub mod Loops
 pub mod Machines
 pub mod Unique
+pub mod Agrees

@@ -1,3 +1,4 @@
 pub mod Verdict
 pub mod Flown
 pub mod Told
+pub mod Walked

@@ -1,4 +1,5 @@
-// Reads sample bytes in every way, and walks sample streams.
+// Reads sample bytes in every way, walks sample streams, and judges them before they are walked.
+mod flying;
 mod print;
 mod reading;
 mod walking;
@@ -6,4 +7,5 @@ mod walking;
 fn main() {
     reading::samples();
     walking::samples();
+    flying::samples();
 }

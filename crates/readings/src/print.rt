@@ -13,6 +13,18 @@ pub(crate) fn decimal(what: &[u8], n: u64) {
     io::print_decimal(STDOUT_FILENO, n);
 }
 
+pub(crate) fn decimals(numbers: &[u64]) {
+    let mut at = 0;
+    while at < numbers.len() {
+        next(numbers[at]);
+        at = at + 1;
+    }
+}
+
+fn next(n: u64) {
+    decimal(b"", n);
+}
+
 pub(crate) fn signed(what: &[u8], value: i64) {
     if value < 0 {
         say(what);

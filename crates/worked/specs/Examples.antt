@@ -14,6 +14,7 @@ use Rattle.numbers.specs.declared.leb128.Signed.{Signed}
 use Rattle.numbers.specs.declared.leb128.Signed.the-variants.{Value as SignedValue}
 use Rattle.numbers.specs.Leb128.{ulebAt, slebAt}
 use Rattle.numbers.specs.Parts.{partOf}
+use Rattle.preflight.specs.Verdict.{Verdict, pass, fault, preflight}
 use Rattle.rebase.specs.Rebases.{rebases}
 use Rattle.rebase.specs.Rebases as rebase
 use Rattle.rebase.specs.declared.Rebase.{Rebase}
@@ -41,12 +42,15 @@ pub data Example : Type 0 where
   -- streams, of pointer size 8: what calls from a start on say
   rebased : List ℕ → Run Rebase → Example
   bound : List ℕ → Run Symbol → Example  -- plain
+  -- and the preflight of a rebase stream of pointer size 8, with the sizes of the segments
+  judged : (bytes sizes : List ℕ) → Verdict → Example
 
 pub data Meaning : Type 0 where
   unsigned : Number → Meaning
   signed : Signed → Meaning
   places : Run Rebase → Meaning
   symbols : Run Symbol → Meaning
+  verdict : Verdict → Meaning
 
 -- what the definitions say
 abbrev pub defined : Example → Meaning
@@ -54,6 +58,7 @@ defined (uleb n bytes) = unsigned (ulebAt bytes 0)
 defined (sleb z bytes) = signed (slebAt bytes 0)
 defined (rebased bytes run) = places (heard (listing rebases 8 rebase.unset bytes))
 defined (bound bytes run) = symbols (allNamed bytes (heard (listing binds 8 bind.plainly bytes)))
+defined (judged bytes sizes said) = verdict (preflight rebases rebase.unset 8 sizes bytes)
 
 -- what the document says: of a number, that it is this one and the bytes are read to their end
 abbrev pub documented : Example → Meaning
@@ -61,6 +66,7 @@ documented (uleb n bytes) = unsigned (UnsignedValue n (length bytes))
 documented (sleb z bytes) = signed (SignedValue z (length bytes))
 documented (rebased bytes run) = places run
 documented (bound bytes run) = symbols run
+documented (judged bytes sizes said) = verdict said
 
 abbrev minus : ℕ → ℤ
 minus n = negℤ (pos n)
@@ -83,4 +89,11 @@ examples =
     (gives (symbol 2 8 1 (pos 1) (0x5f ∷ 0x61 ∷ []) 0 (pos 0)) stops) ∷
     rebased (0x60 ∷ 0x00 ∷ []) stops ∷
     rebased (0x51 ∷ []) (fails 5) ∷
+    -- the cases P1 and P2 of the preflight, each with a stream or a size that it faults
+    judged (0x11 ∷ 0x22 ∷ 0x10 ∷ 0x53 ∷ 0x00 ∷ []) (0 ∷ 0 ∷ 40 ∷ []) (pass 4) ∷
+    judged (0x11 ∷ 0x22 ∷ 0x10 ∷ 0x53 ∷ 0x00 ∷ []) (0 ∷ 0 ∷ 39 ∷ []) (fault 20 3 2) ∷
+    judged (0x11 ∷ 0x22 ∷ 0x10 ∷ 0x80 ∷ 0x03 ∷ 0xf0 ∷ 0xff ∷ 0xff ∷ 0xff ∷ 0xff ∷ 0xff ∷ 0xff ∷ 0xff ∷ 0xff ∷ 0x01 ∷ [])
+    (0 ∷ 0 ∷ 24 ∷ []) (pass 3) ∷
+    judged (0x11 ∷ 0x22 ∷ 0x10 ∷ 0x80 ∷ 0x04 ∷ 0xf0 ∷ 0xff ∷ 0xff ∷ 0xff ∷ 0xff ∷ 0xff ∷ 0xff ∷ 0xff ∷ 0xff ∷ 0x01 ∷ [])
+    (0 ∷ 0 ∷ 24 ∷ []) (fault 20 3 3) ∷
     []
