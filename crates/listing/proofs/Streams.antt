@@ -1,4 +1,4 @@
--- The operations of a stream from a place on: none, one that is refused, or one and those from the place behind it. Assumes noBytes.
+-- The operations of a stream from a place on: none, one that is refused, or one and those from the place behind it. Assumes nothing.
 use Prim.Native.Nat.{ℕ, zero, suc, _+_, _≤_, _<_}
 use mathlib.Core.Path.{_≡_, refl, ap, sym, _∙_, subst}
 use mathlib.Core.List.{List}

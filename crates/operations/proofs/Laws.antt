@@ -1,5 +1,5 @@
 -- The laws that callers cite: an operation ends behind its place and within the bytes, and what a parser's answer says determines it. They
--- are about the definitions alone. Assumes noBytes.
+-- are about the definitions alone. Assumes nothing.
 use Prim.Native.Nat.{ℕ, _+_, _≤_, _<_}
 use mathlib.Core.Path.{_≡_, refl, ap, sym, subst}
 use mathlib.Core.List.{List}

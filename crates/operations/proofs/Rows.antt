@@ -1,4 +1,4 @@
--- What the definitions say of a byte, by the tests that a parser makes: for `search`. Assumes noBytes.
+-- What the definitions say of a byte, by the tests that a parser makes: for `search`. Assumes nothing.
 use Prim.Native.Nat.{ℕ, zero, suc, _+_, _*_, _/_, _%_, _≤_, _<_, zero-le}
 use mathlib.Core.Path.{_≡_, refl, sym, _∙_}
 use mathlib.Core.Bool.{Bool, true, false, _&&_}

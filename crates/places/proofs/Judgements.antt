@@ -26,9 +26,10 @@ module _ (o a left w z : ℕ) where
           ap Inside (sym (at (suc left))) ∙ none-outside o a w z z≤ left (λ k p. omega (arith, at k))
 
       module _ (pos : 0 < a) (a≤ : a ≤ 2 ^ 63) where
-        pub forth-leaves : (z - w - o) / a < left → Outside ((z - w - o) / a + 1) ≡ judgedOf o a left w z
-        forth-leaves h =
-            one-outside o a w z z≤ left ((z - w - o) / a + 1) (omega arith)
+        pub forth-leaves : (z - w - o) / a < left → {first : ℕ} → first ≡ (z - w - o) / a + 1 → Outside first ≡ judgedOf o a left w z
+        forth-leaves h e =
+            ap Outside e
+            ∙ one-outside o a w z z≤ left ((z - w - o) / a + 1) (omega arith)
             (λ k p. omega (arith, forth-in o a (z - w) pos o≤ (omega arith) k (omega arith)))
             (omega (arith, forth-out o a (z - w) pos o≤ (omega arith)))
 
@@ -39,9 +40,10 @@ module _ (o a left w z : ℕ) where
             ∙ none-outside o a w z z≤ left (λ k p. omega (arith, forth-in o a (z - w) pos o≤ (omega arith) k (omega arith)))
 
       module _ (back : ℕ) (e : a + back ≡ 2 ^ 64) (pos : 0 < back) (back≤ : back ≤ 2 ^ 63) where
-        pub back-leaves : o / back < left → Outside (o / back + 1) ≡ judgedOf o a left w z
-        back-leaves h =
-            one-outside o a w z z≤ left (o / back + 1) (omega arith)
+        pub back-leaves : o / back < left → {first : ℕ} → first ≡ o / back + 1 → Outside first ≡ judgedOf o a left w z
+        back-leaves h f =
+            ap Outside f
+            ∙ one-outside o a w z z≤ left (o / back + 1) (omega arith)
             (λ k p. omega (arith, back-in o a back (z - w) pos o≤ e (omega arith) k (omega arith)))
             (omega (arith, back-out o a back (z - w) pos o≤ e (omega arith)))
 

@@ -22,7 +22,11 @@ judgedFrom offset advance width size i (suc n) =
       | false ↦ Outside i
     ]
 
--- place 0 and so many more
+-- the largest segment that places are judged in
+abbrev pub largestSize : ℕ
+largestSize = 2 ^ 62
+
+-- place 0 and so many more, in a segment that is not too large
 unfoldable pub judgedOf : (offset advance left width size : ℕ) → Judged
 judgedOf offset advance left width size =
-    cond (leb size (2 ^ 62)) (judgedFrom offset advance width size 0 (suc left)) TooLarge
+    cond (leb size largestSize) (judgedFrom offset advance width size 0 (suc left)) TooLarge

@@ -2,8 +2,11 @@
 ghost use mathlib.Core.Path.{_≡_};
 ghost use Rattle.places.specs.Places.{judgedOf};
 
+// The largest segment that places are judged in: 2^62 bytes.
+pub const LARGEST_SIZE: u64 = 0x4000_0000_0000_0000;
+
 // All places lie inside, and this is the offset behind them; or this is the index of the first that
-// does not; or the segment is larger than 2^62 bytes, and nothing is said.
+// does not; or the segment is larger than any that places are judged in.
 pub enum Judged {
     Inside(u64),
     Outside(u64),
@@ -15,7 +18,7 @@ pub enum Judged {
 pub fn judge(offset: u64, advance: u64, left: u64, width: u64, size: u64) -> Judged
     ensures { λ r. ⌜ r ≡ judgedOf offset advance left width size ⌝ }
 {
-    if 0x4000_0000_0000_0000 < size {
+    if LARGEST_SIZE < size {
         return Judged::TooLarge;
     }
     if size < width {
@@ -29,16 +32,16 @@ pub fn judge(offset: u64, advance: u64, left: u64, width: u64, size: u64) -> Jud
         return Judged::Inside(offset);
     }
     if advance <= 0x8000_0000_0000_0000 {
-        let more = (last - offset) / advance;
-        if more < left {
-            return Judged::Outside(more + 1);
+        let steps_up = (last - offset) / advance;
+        if steps_up < left {
+            return Judged::Outside(steps_up + 1);
         }
         return Judged::Inside(std::num::wrapping_add_u64(offset + left * advance, advance));
     }
     let back = u64::MAX - advance + 1;
-    let more = offset / back;
-    if more < left {
-        return Judged::Outside(more + 1);
+    let steps_down = offset / back;
+    if steps_down < left {
+        return Judged::Outside(steps_down + 1);
     }
     Judged::Inside(std::num::wrapping_add_u64(offset - left * back, advance))
 }

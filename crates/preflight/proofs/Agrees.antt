@@ -11,7 +11,7 @@ use Rattle.listing.specs.Machine.{Machine}
 use Rattle.listing.specs.Runs.{Run, Walks, heard}
 use Rattle.refusal.specs.Numbers.{numberOf}
 use Rattle.refusal.specs.declared.Refusal.the-variants.{PlaceOutside}
-use Rattle.preflight.specs.Verdict.{Verdict, fault, inside, verdict, fitSizes, fitted, preflight}
+use Rattle.preflight.specs.Verdict.{Verdict, fault, inside, verdict, fitSizes, withSizes, preflight}
 use Rattle.preflight.specs.Walked.{Outcome, faulty, outcome, walked}
 
 module _ (M : Machine) (size : ℕ) (sizes : List ℕ) where
@@ -31,7 +31,7 @@ module _ (M : Machine) (size : ℕ) (sizes : List ℕ) where
   -- else names what comes first
   pub agrees : (g : M .Reg) (s : List ℕ) (w : State (M .Reg)) → begin size g ≡ begun w → fitSizes sizes ≡ true → (r : Run (M .Item)) → Walks M s w r →
       outcome (preflight M g size sizes s) ≡ walked M size sizes r
-  unfolding preflight fitted
+  unfolding preflight withSizes
   agrees g s w e fit r walks =
       rw (begun-sized M s size g e, fit)
       (heard-alike (listing M size g s) ∙ ap (walked M size sizes) (sym (joined-only M s size g w e r walks)))

@@ -20,7 +20,7 @@ use Rattle.operations.specs.Table.{Parsed, operation, operationAt}
 use Rattle.refusal.specs.Numbers.{numberOf}
 use Rattle.refusal.specs.declared.Refusal.the-variants.{PointerSize, UnfitSizes}
 use Rattle.preflight.specs.Flown.{flownOf}
-use Rattle.preflight.specs.Verdict.{Verdict, fault, verdict, fitSizes, fitted, preflight}
+use Rattle.preflight.specs.Verdict.{Verdict, fault, verdict, fitSizes, withSizes, preflight}
 use Rattle.preflight.specs.declared.flight.Flown.{Flown}
 use Rattle.preflight.specs.declared.flight.Flown.the-variants.{On}
 use Rattle.preflight.specs.declared.flight.Spot.{Spot}
@@ -49,12 +49,12 @@ module _ (M : Machine) (size : ℕ) (sizes s : List ℕ) where
 
   -- by the test of the sizes
   module _ (g : M .Reg) {b : Bool} (e : b ≡ fitSizes sizes) where
-    pub not-fit : not b ≡ true → {y : Verdict} → y ≡ fault (numberOf UnfitSizes) 0 0 → y ≡ fitted M g size sizes s
-    unfolding fitted
+    pub not-fit : not b ≡ true → {y : Verdict} → y ≡ fault (numberOf UnfitSizes) 0 0 → y ≡ withSizes M g size sizes s
+    unfolding withSizes
     not-fit f h = h ∙ sym (rw (sym e ∙ is-false b f))
 
-    pub takes-off : not b ≡ false → Flying (fitted M g size sizes s) 0 0 g 0
-    unfolding fitted listing
+    pub takes-off : not b ≡ false → Flying (withSizes M g size sizes s) 0 0 g 0
+    unfolding withSizes listing
     takes-off f = let fit = sym e ∙ is-true b f in record { same = rw fit; few = omega arith; fit = fit }
 
 module _ {M : Machine} (P : Placed M) {size : ℕ} {sizes s : List ℕ} {v : Verdict} {at k : ℕ} {g : M .Reg} {o : ℕ} (r : Flying M size sizes s v at k g o)
@@ -99,7 +99,7 @@ module _ {M : Machine} (P : Placed M) {size : ℕ} {sizes s : List ℕ} {v : Ver
 
 module _ (M : Machine) (g : M .Reg) (size : ℕ) (sizes s : List ℕ) where
   abbrev pub startingWith : Begin (M .Reg) → Verdict
-  startingWith (begun w) = fitted M (w .registers) size sizes s
+  startingWith (begun w) = withSizes M (w .registers) size sizes s
   startingWith (notBegun number) = fault number 0 0
 
   starting : startingWith (begin size g) ≡ preflight M g size sizes s
@@ -108,7 +108,7 @@ module _ (M : Machine) (g : M .Reg) (size : ℕ) (sizes s : List ℕ) where
     where
       by-size : (b : Bool) →
           startingWith (beginFrom g (cond b (start.Begun (atStart size)) (start.Refused PointerSize)))
-          ≡ cond b (fitted M g size sizes s) (fault (numberOf PointerSize) 0 0)
+          ≡ cond b (withSizes M g size sizes s) (fault (numberOf PointerSize) 0 0)
       by-size true = refl
       by-size false = refl
 

@@ -1,5 +1,6 @@
--- What one operation comes to in a preflight, for places that are due at a spot: the pointer size, what they lack, their segment
--- and their type.
+-- What one operation comes to in a preflight. Only private functions promise this; that it is the verdict on what the operation lists is
+-- `verdict-turn` (proofs/Verdicts.antt). A spot is what is known of places if some are due: the pointer size, what they lack, their
+-- segment and their type.
 use Prim.Native.Nat.{ℕ}
 use mathlib.Core.Bool.{cond}
 use mathlib.Core.List.{List}
@@ -21,7 +22,7 @@ use Rattle.preflight.specs.declared.flight.Spot.{Spot}
 abbrev pub flownJudged : Judged → Flown
 flownJudged (Inside behind) = On behind
 flownJudged (Outside index) = Fault PlaceOutside index
-flownJudged TooLarge = Fault UnfitSizes 0
+flownJudged TooLarge = Fault UnfitSizes 0  -- not said: the sizes were tested before the first operation
 
 module _ (spot : Spot) where
   -- places that lack nothing; a segment without a size has no place inside

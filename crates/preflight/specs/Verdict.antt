@@ -1,6 +1,6 @@
 -- The verdict on a stream, read off what it lists: a pass where the listing ends without refusal and every entry lies inside its segment;
 -- else the first fault, with the position of its operation and its index in the repeat.
-use Prim.Native.Nat.{ℕ, _^_}
+use Prim.Native.Nat.{ℕ}
 use mathlib.Core.Bool.{Bool, true, false, cond, _&&_}
 use mathlib.Core.List.{List, [], _∷_}
 use lib.Dec.{leb, ltb}
@@ -8,7 +8,7 @@ use lib.ListN.{length, getD}
 use Rattle.cursor.specs.Cursor.{isPointerSize}
 use Rattle.listing.specs.Listing.{Listing, ends, refuses, lists, listing}
 use Rattle.listing.specs.Machine.{Place, Machine}
-use Rattle.places.specs.Places.{fits}
+use Rattle.places.specs.Places.{fits, largestSize}
 use Rattle.refusal.specs.Numbers.{numberOf}
 use Rattle.refusal.specs.declared.Refusal.the-variants.{PointerSize, PlaceOutside, UnfitSizes}
 
@@ -43,17 +43,17 @@ module _ (M : Machine) (size : ℕ) (sizes : List ℕ) where
 
 abbrev pub allSmall : List ℕ → Bool
 allSmall [] = true
-allSmall (z ∷ sizes) = leb z (2 ^ 62) && allSmall sizes
+allSmall (z ∷ sizes) = leb z largestSize && allSmall sizes
 
 -- not more than 16, and none above 2^62
 abbrev pub fitSizes : List ℕ → Bool
 fitSizes sizes = leb (length sizes) 16 && allSmall sizes
 
 -- 21 comes before any byte of the stream
-unfoldable pub fitted : (M : Machine) → M .Reg → (size : ℕ) (sizes s : List ℕ) → Verdict
-fitted M start size sizes s =
+unfoldable pub withSizes : (M : Machine) → M .Reg → (size : ℕ) (sizes s : List ℕ) → Verdict
+withSizes M start size sizes s =
     cond (fitSizes sizes) (verdict M size sizes (listing M size start s)) (fault (numberOf UnfitSizes) 0 0)
 
 -- and 1 before 21
 unfoldable pub preflight : (M : Machine) → M .Reg → (size : ℕ) (sizes s : List ℕ) → Verdict
-preflight M start size sizes s = cond (isPointerSize size) (fitted M start size sizes s) (fault (numberOf PointerSize) 0 0)
+preflight M start size sizes s = cond (isPointerSize size) (withSizes M start size sizes s) (fault (numberOf PointerSize) 0 0)

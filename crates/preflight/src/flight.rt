@@ -9,7 +9,8 @@ use cursor::Turn;
 use places::Judged;
 use refusal::Refusal;
 
-// What is known of places that are due: the pointer size, what they lack, their segment and their type.
+// What is known of places if some are due: the pointer size, what they lack, their segment and their
+// type.
 pub(crate) struct Spot {
     pub(crate) size: u8,
     pub(crate) lack: Lack,

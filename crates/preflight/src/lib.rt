@@ -1,21 +1,19 @@
 // The preflight of an opcode stream: does a walk over it end without refusal, with every place inside
 // its segment? However many places a repeat has, it is not stepped through.
+mod bind_flight;
 mod flight;
+mod rebase_flight;
 mod sizes;
 
 ghost use mathlib.Core.Path.{_≡_};
 ghost use Rattle.bind.specs.Binds.{plainly, weakly, lazily, binds};
 ghost use Rattle.rebase.specs.Rebases.{unset, rebases};
 ghost use Rattle.preflight.specs.Told.{told};
-ghost use Rattle.preflight.specs.Verdict.{fitted, preflight};
-use crate::flight::Flown;
-use crate::flight::Spot;
+ghost use Rattle.preflight.specs.Verdict.{preflight};
+use crate::bind_flight::fly_binds;
+use crate::rebase_flight::fly_rebases;
 use bind::BindStart;
 use bind::BindWalk;
-use operations::bind_operation::BindOperation;
-use operations::bind_operation::BindParse;
-use operations::rebase_operation::RebaseOperation;
-use operations::rebase_operation::RebaseParse;
 use rebase::RebaseStart;
 use rebase::RebaseWalk;
 use refusal::Refusal;
@@ -64,81 +62,5 @@ pub fn lazy_binds(s: &[u8], size: u8, sizes: &[u64]) -> Verdict
     match BindWalk::lazy(size) {
         BindStart::Begun(walk) => fly_binds(walk.registers, s, size, sizes),
         BindStart::Refused(e) => Verdict::Fault(e, 0, 0),
-    }
-}
-
-fn fly_rebases(start: rebase::Registers, s: &[u8], size: u8, sizes: &[u64]) -> Verdict
-    ensures { λ r. ⌜ told r ≡ fitted rebases start size (now (sizes .entry)) (now (s .entry)) ⌝ }
-{
-    if !sizes::fit(sizes) {
-        return Verdict::Fault(Refusal::UnfitSizes, 0, 0);
-    }
-    let mut at: usize = 0;
-    let mut operations: u64 = 0;
-    let mut registers = start;
-    let mut offset: u64 = 0;
-    loop {
-        match RebaseOperation::parse(s, at) {
-            RebaseParse::End => return Verdict::Pass(operations),
-            RebaseParse::Refused(e) => return Verdict::Fault(e, at as u64, 0),
-            RebaseParse::Operation(op, next) => {
-                let did = registers.effect(size, op);
-                let motion = did.motion;
-                registers = did.registers;
-                let spot = Spot {
-                    size,
-                    lack: registers.lack(),
-                    segment: registers.segment,
-                    kind: registers.kind,
-                };
-                match spot.fly(motion, offset, sizes) {
-                    Flown::On(to) => {
-                        at = next;
-                        operations = operations + 1;
-                        offset = to;
-                    }
-                    Flown::Pass => return Verdict::Pass(operations + 1),
-                    Flown::Fault(e, index) => return Verdict::Fault(e, at as u64, index),
-                }
-            }
-        }
-    }
-}
-
-fn fly_binds(start: bind::Registers, s: &[u8], size: u8, sizes: &[u64]) -> Verdict
-    ensures { λ r. ⌜ told r ≡ fitted binds start size (now (sizes .entry)) (now (s .entry)) ⌝ }
-{
-    if !sizes::fit(sizes) {
-        return Verdict::Fault(Refusal::UnfitSizes, 0, 0);
-    }
-    let mut at: usize = 0;
-    let mut operations: u64 = 0;
-    let mut registers = start;
-    let mut offset: u64 = 0;
-    loop {
-        match BindOperation::parse(s, at) {
-            BindParse::End => return Verdict::Pass(operations),
-            BindParse::Refused(e) => return Verdict::Fault(e, at as u64, 0),
-            BindParse::Operation(op, next) => {
-                let did = registers.effect(size, op);
-                let motion = did.motion;
-                registers = did.registers;
-                let spot = Spot {
-                    size,
-                    lack: registers.lack(),
-                    segment: registers.segment,
-                    kind: registers.kind,
-                };
-                match spot.fly(motion, offset, sizes) {
-                    Flown::On(to) => {
-                        at = next;
-                        operations = operations + 1;
-                        offset = to;
-                    }
-                    Flown::Pass => return Verdict::Pass(operations + 1),
-                    Flown::Fault(e, index) => return Verdict::Fault(e, at as u64, index),
-                }
-            }
-        }
     }
 }

@@ -1,6 +1,7 @@
 // The sizes of the segments.
 ghost use mathlib.Core.Path.{_≡_};
 ghost use Rattle.preflight.specs.Verdict.{fitSizes};
+use places::LARGEST_SIZE;
 
 // Whether a preflight takes them: not more than 16, and none above 2^62.
 pub(crate) fn fit(sizes: &[u64]) -> bool
@@ -11,7 +12,7 @@ pub(crate) fn fit(sizes: &[u64]) -> bool
     }
     let mut i = 0;
     while i < sizes.len() {
-        if 0x4000_0000_0000_0000 < sizes[i] {
+        if LARGEST_SIZE < sizes[i] {
             return false;
         }
         i = i + 1;

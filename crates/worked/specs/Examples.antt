@@ -43,7 +43,7 @@ pub data Example : Type 0 where
   rebased : List ℕ → Run Rebase → Example
   bound : List ℕ → Run Symbol → Example  -- plain
   -- and the preflight of a rebase stream of pointer size 8, with the sizes of the segments
-  judged : (bytes sizes : List ℕ) → Verdict → Example
+  preflown : (bytes sizes : List ℕ) → Verdict → Example
 
 pub data Meaning : Type 0 where
   unsigned : Number → Meaning
@@ -58,7 +58,7 @@ defined (uleb n bytes) = unsigned (ulebAt bytes 0)
 defined (sleb z bytes) = signed (slebAt bytes 0)
 defined (rebased bytes run) = places (heard (listing rebases 8 rebase.unset bytes))
 defined (bound bytes run) = symbols (allNamed bytes (heard (listing binds 8 bind.plainly bytes)))
-defined (judged bytes sizes said) = verdict (preflight rebases rebase.unset 8 sizes bytes)
+defined (preflown bytes sizes said) = verdict (preflight rebases rebase.unset 8 sizes bytes)
 
 -- what the document says: of a number, that it is this one and the bytes are read to their end
 abbrev pub documented : Example → Meaning
@@ -66,7 +66,7 @@ documented (uleb n bytes) = unsigned (UnsignedValue n (length bytes))
 documented (sleb z bytes) = signed (SignedValue z (length bytes))
 documented (rebased bytes run) = places run
 documented (bound bytes run) = symbols run
-documented (judged bytes sizes said) = verdict said
+documented (preflown bytes sizes said) = verdict said
 
 abbrev minus : ℕ → ℤ
 minus n = negℤ (pos n)
@@ -90,10 +90,10 @@ examples =
     rebased (0x60 ∷ 0x00 ∷ []) stops ∷
     rebased (0x51 ∷ []) (fails 5) ∷
     -- the cases P1 and P2 of the preflight, each with a stream or a size that it faults
-    judged (0x11 ∷ 0x22 ∷ 0x10 ∷ 0x53 ∷ 0x00 ∷ []) (0 ∷ 0 ∷ 40 ∷ []) (pass 4) ∷
-    judged (0x11 ∷ 0x22 ∷ 0x10 ∷ 0x53 ∷ 0x00 ∷ []) (0 ∷ 0 ∷ 39 ∷ []) (fault 20 3 2) ∷
-    judged (0x11 ∷ 0x22 ∷ 0x10 ∷ 0x80 ∷ 0x03 ∷ 0xf0 ∷ 0xff ∷ 0xff ∷ 0xff ∷ 0xff ∷ 0xff ∷ 0xff ∷ 0xff ∷ 0xff ∷ 0x01 ∷ [])
+    preflown (0x11 ∷ 0x22 ∷ 0x10 ∷ 0x53 ∷ 0x00 ∷ []) (0 ∷ 0 ∷ 40 ∷ []) (pass 4) ∷
+    preflown (0x11 ∷ 0x22 ∷ 0x10 ∷ 0x53 ∷ 0x00 ∷ []) (0 ∷ 0 ∷ 39 ∷ []) (fault 20 3 2) ∷
+    preflown (0x11 ∷ 0x22 ∷ 0x10 ∷ 0x80 ∷ 0x03 ∷ 0xf0 ∷ 0xff ∷ 0xff ∷ 0xff ∷ 0xff ∷ 0xff ∷ 0xff ∷ 0xff ∷ 0xff ∷ 0x01 ∷ [])
     (0 ∷ 0 ∷ 24 ∷ []) (pass 3) ∷
-    judged (0x11 ∷ 0x22 ∷ 0x10 ∷ 0x80 ∷ 0x04 ∷ 0xf0 ∷ 0xff ∷ 0xff ∷ 0xff ∷ 0xff ∷ 0xff ∷ 0xff ∷ 0xff ∷ 0xff ∷ 0x01 ∷ [])
+    preflown (0x11 ∷ 0x22 ∷ 0x10 ∷ 0x80 ∷ 0x04 ∷ 0xf0 ∷ 0xff ∷ 0xff ∷ 0xff ∷ 0xff ∷ 0xff ∷ 0xff ∷ 0xff ∷ 0xff ∷ 0x01 ∷ [])
     (0 ∷ 0 ∷ 24 ∷ []) (fault 20 3 3) ∷
     []
