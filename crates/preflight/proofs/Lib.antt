@@ -5,3 +5,4 @@ pub mod Loops
 pub mod Machines
 pub mod Unique
 pub mod Agrees
+pub mod Walks

@@ -45,13 +45,13 @@ impl Spot {
     {
         let lack = self.lack;
         match lack {
-            Lack::Nothing => self.judge(offset, advance, left, sizes),
+            Lack::Nothing => self.judged(offset, advance, left, sizes),
             Lack::Lacks(e) => Flown::Fault(e, 0),
         }
     }
 
     // Places that lack nothing, judged together.
-    fn judge(self, offset: u64, advance: u64, left: u64, sizes: &[u64]) -> Flown
+    fn judged(self, offset: u64, advance: u64, left: u64, sizes: &[u64]) -> Flown
         ensures { λ r. ⌜ r ≡ flownPlaces self offset advance left (now (sizes .entry)) ⌝ }
     {
         let i = self.segment as usize;

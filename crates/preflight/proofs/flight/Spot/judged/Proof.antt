@@ -1,11 +1,11 @@
--- `preflight::flight::Spot::judge` meets its contract. Assumes nothing.
+-- `preflight::flight::Spot::judged` meets its contract. Assumes nothing.
 use borrow.Author.Needs.{needs}
 use Rattle.preflight.proofs.Flights.{flown-laws}
-use Rattle.preflight.proofs.flight.Spot.judge.Statement.{statement}
-use Rattle.preflight.proofs.flight.Spot.judge.Tie as tie
+use Rattle.preflight.proofs.flight.Spot.judged.Statement.{statement}
+use Rattle.preflight.proofs.flight.Spot.judged.Tie as tie
 
-pub judge-spec : {M : Type 1} → statement M
-judge-spec =
+pub judged-spec : {M : Type 1} → statement M
+judged-spec =
     tie.close
     (tie.spec
     (λ c. search needs)
