@@ -1,5 +1,5 @@
 -- Offsets stay below 2^64. Assumes nothing.
-use Prim.Native.Nat.{ℕ, zero, suc, _+_, _%_, _^_, _<_}
+use Prim.Native.Nat.{ℕ, zero, suc, _^_, _<_}
 use native.Mathlib.Omega.{arith}
 use Rattle.cursor.specs.Motion.{turnOf}
 use Rattle.cursor.specs.declared.Motion.{Motion}

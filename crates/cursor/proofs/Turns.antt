@@ -12,9 +12,7 @@ use Rattle.cursor.specs.declared.Motion.{Motion}
 use Rattle.cursor.specs.declared.Motion.the-variants.{Adds, Seeks, Repeats}
 use Rattle.cursor.specs.declared.Moved.{Moved}
 use Rattle.cursor.specs.declared.Moved.the-variants as moved
-use Rattle.cursor.specs.declared.Standing.{Standing}
 use Rattle.cursor.specs.declared.Standing.the-variants as standing
-use Rattle.cursor.specs.declared.Start.{Start}
 use Rattle.cursor.specs.declared.Start.the-variants as start
 use Rattle.cursor.specs.declared.Turn.{Turn}
 use Rattle.cursor.specs.declared.Turn.the-variants.{On, Due}

@@ -4,8 +4,6 @@ use mathlib.Core.Path.{_≡_, refl, sym, subst}
 use mathlib.Core.List.{List}
 use lib.ListN.{length}
 use Rattle.cursor.specs.Cursor.{standingOf}
-use Rattle.cursor.specs.declared.Lack.{Lack}
-use Rattle.cursor.specs.declared.Moved.{Moved}
 use Rattle.cursor.specs.declared.Standing.{Standing}
 use Rattle.cursor.specs.declared.Standing.the-variants as standing
 use Rattle.listing.specs.Call.{State, state, Answer, item, end, refused, called, call}

@@ -5,9 +5,6 @@ use mathlib.Core.List.{List}
 use mathlib.Core.Bool.{Bool, true, false, cond}
 use lib.ListN.{length}
 use Rattle.cursor.specs.Cursor.{inRange, liveStanding, standingOf, markedEnded}
-use Rattle.cursor.specs.declared.Cursor.{Cursor}
-use Rattle.cursor.specs.declared.Lack.{Lack}
-use Rattle.cursor.specs.declared.Moved.{Moved}
 use Rattle.cursor.specs.declared.Standing.the-variants as standing
 use Rattle.listing.specs.Call.{State, state, Answer, item, end, refused, called, call}
 use Rattle.listing.specs.Machine.{Machine}

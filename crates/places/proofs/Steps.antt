@@ -1,6 +1,6 @@
 -- Where steps forwards and steps backwards lead, modulo 2^64: `last` is the last offset inside; up to the quotient places are at or below
 -- it, and the next one is above it. Assumes nothing.
-use Prim.Native.Nat.{ℕ, zero, suc, _+_, _-_, _*_, _/_, _%_, _^_, _≤_, _<_}
+use Prim.Native.Nat.{ℕ, suc, _+_, _-_, _*_, _/_, _%_, _^_, _≤_, _<_}
 use mathlib.Core.Path.{_≡_, ap}
 use native.Mathlib.Nat.{le-div-iff-mul-le, div-mul-le-self, lt-div-mul-add}
 use native.Mathlib.Omega.{arith}

@@ -1,9 +1,8 @@
 -- The preflight agrees with what calling the walk to its end says. Assumes nothing.
 use Prim.Native.Nat.{ℕ}
 use mathlib.Core.Path.{_≡_, refl, ap, sym, _∙_}
-use mathlib.Core.Bool.{Bool, true, false, cond}
+use mathlib.Core.Bool.{Bool, true, false}
 use mathlib.Core.List.{List}
-use Rattle.cursor.specs.Cursor.{isPointerSize}
 use Rattle.listing.proofs.Joined.{joined-only, begun-sized}
 use Rattle.listing.specs.Call.{State, begun, begin}
 use Rattle.listing.specs.Listing.{Listing, ends, refuses, lists, listing}

@@ -1,5 +1,5 @@
 -- A preflight's code by the tests it makes, for `search`: its start, and one turn of the loop over operations. Assumes nothing.
-use Prim.Native.Nat.{ℕ, zero, suc, _+_, _-_, _^_, _≤_, _<_}
+use Prim.Native.Nat.{ℕ, suc, _+_, _-_, _^_, _≤_, _<_}
 use mathlib.Core.Path.{_≡_, refl, ap, sym, _∙_}
 use mathlib.Core.Bool.{Bool, true, false, not, cond}
 use mathlib.Core.List.{List}
@@ -12,7 +12,7 @@ use Rattle.cursor.specs.declared.Lack.{Lack}
 use Rattle.cursor.specs.declared.Motion.{Motion}
 use Rattle.cursor.specs.declared.Start.the-variants as start
 use Rattle.listing.proofs.Streams.{ends-within, stream-by}
-use Rattle.listing.specs.Call.{State, Begin, begun, notBegun, beginFrom, begin}
+use Rattle.listing.specs.Call.{Begin, begun, notBegun, beginFrom, begin}
 use Rattle.listing.specs.Listing.{listed, listingOf, listing}
 use Rattle.listing.specs.Machine.{Effect, _and_, Machine}
 use Rattle.listing.specs.Stream.{Stream, before, streamAt}
@@ -23,8 +23,7 @@ use Rattle.preflight.specs.Flown.{flownOf}
 use Rattle.preflight.specs.Verdict.{Verdict, fault, verdict, fitSizes, withSizes, preflight}
 use Rattle.preflight.specs.declared.flight.Flown.{Flown}
 use Rattle.preflight.specs.declared.flight.Flown.the-variants.{On}
-use Rattle.preflight.specs.declared.flight.Spot.{Spot}
-use Rattle.preflight.proofs.Verdicts.{Placed, decided, verdict-turn}
+use Rattle.preflight.proofs.Verdicts.{Placed, spotAt, decided, verdict-turn}
 
 is-false : (b : Bool) → not b ≡ true → b ≡ false
 is-false true e = cc
@@ -72,14 +71,14 @@ module _ {M : Machine} (P : Placed M) {size : ℕ} {sizes s : List ℕ} {v : Ver
     counts h = let w = ends-within M s at (sym p ∙ q) in omega (arith, w .beyond, w .inside, r .few)
 
     module _ {h : M .Reg} {m : Motion} (f : h and m ≡ M .effect size op g) {lack : Lack} (l : lack ≡ M .lack h) {d : Flown}
-        (e : d ≡ flownOf (record { size = size; lack = lack; segment = P .segment h; kind = P .kind h }) o sizes (turnOf size o m)) where
+        (e : d ≡ flownOf (spotAt P size lack h) o sizes (turnOf size o m)) where
       flies : v ≡ decided at k (flight M size sizes s next (suc k) h) d
       unfolding listingOf before
       flies =
           sym (parsed-as q refl)
           ∙ ap (λ (did : Effect (M .Reg)). verdict M size sizes (listed M at k (did .registers) o (listingOf M size (streamAt M s next) (suc k)) (turnOf size o (did .motion)))) (sym f)
           ∙ verdict-turn M P size sizes h (r .fit) at k (listingOf M size (streamAt M s next) (suc k)) o (turnOf size o m)
-          ∙ ap (λ (i : Lack). decided at k (flight M size sizes s next (suc k) h) (flownOf (record { size = size; lack = i; segment = P .segment h; kind = P .kind h }) o sizes (turnOf size o m))) (sym l)
+          ∙ ap (λ (i : Lack). decided at k (flight M size sizes s next (suc k) h) (flownOf (spotAt P size i h) o sizes (turnOf size o m))) (sym l)
           ∙ ap (decided at k (flight M size sizes s next (suc k) h)) (sym e)
 
       -- by what the operation comes to

@@ -1,5 +1,5 @@
 -- The sizes of the segments: what the loop over them finds, and that each that is fit is small. Assumes nothing.
-use Prim.Native.Nat.{ℕ, zero, suc, _+_, _^_, _≤_, _<_}
+use Prim.Native.Nat.{ℕ, zero, suc, _+_, _≤_, _<_}
 use mathlib.Core.Path.{_≡_, refl, ap, sym, _∙_}
 use mathlib.Core.Bool.{Bool, true, false, _&&_}
 use mathlib.Core.List.{List, [], _∷_}
@@ -9,6 +9,7 @@ use borrow.Author.Tests.{le-leb, lt-leb, leb-true}
 use lib.Dec.{leb}
 use lib.ListN.{length, getD, drop, drop-of-length-le}
 use lib.Seq.{drop-cons}
+use Rattle.places.specs.Places.{largestSize}
 use Rattle.preflight.specs.Verdict.{allSmall, fitSizes}
 
 -- ---- the loop: sizes 0 .. i - 1 are small
@@ -32,17 +33,17 @@ module _ (sizes : List ℕ) where
     seen-all h = by-small (sym (seen .same) ∙ ap allSmall (drop-of-length-le sizes {i = i} h))
 
     module _ (h : i < length sizes) where
-      turn : allSmall (drop i sizes) ≡ (leb (getD sizes i 0) (2 ^ 62) && allSmall (drop (suc i) sizes))
+      turn : allSmall (drop i sizes) ≡ (leb (getD sizes i 0) largestSize && allSmall (drop (suc i) sizes))
       turn = ap allSmall (drop-cons sizes i 0 h)
 
-      pub seen-large : 2 ^ 62 < getD sizes i 0 → false ≡ fitSizes sizes
-      seen-large p = by-small {b = false} (sym (seen .same) ∙ turn ∙ rw (lt-leb (getD sizes i 0) (2 ^ 62) p))
+      pub seen-large : largestSize < getD sizes i 0 → false ≡ fitSizes sizes
+      seen-large p = by-small {b = false} (sym (seen .same) ∙ turn ∙ rw (lt-leb (getD sizes i 0) largestSize p))
 
-      pub seen-more : getD sizes i 0 ≤ 2 ^ 62 → Seen sizes (i + 1)
+      pub seen-more : getD sizes i 0 ≤ largestSize → Seen sizes (i + 1)
       seen-more p =
           record {
             few = seen .few;
-            same = sym (turn ∙ rw (le-leb (getD sizes i 0) (2 ^ 62) p, add-one)) ∙ seen .same;
+            same = sym (turn ∙ rw (le-leb (getD sizes i 0) largestSize p, add-one)) ∙ seen .same;
           }
 
 pub ruleset size-laws = (too-many, seen-none, seen-all, seen-large, seen-more)
@@ -53,10 +54,10 @@ both : (a b : Bool) → (a && b) ≡ true → (a ≡ true) × (b ≡ true)
 both true b e = (refl, e)
 both false b e = (e, cc)
 
-small : (sizes : List ℕ) → allSmall sizes ≡ true → (i : ℕ) → getD sizes i 0 ≤ 2 ^ 62
+small : (sizes : List ℕ) → allSmall sizes ≡ true → (i : ℕ) → getD sizes i 0 ≤ largestSize
 small [] e i = omega arith
-small (z ∷ sizes) e zero = leb-true z (2 ^ 62) (both (leb z (2 ^ 62)) (allSmall sizes) e .0)
-small (z ∷ sizes) e (suc i) = small sizes (both (leb z (2 ^ 62)) (allSmall sizes) e .1) i
+small (z ∷ sizes) e zero = leb-true z largestSize (both (leb z largestSize) (allSmall sizes) e .0)
+small (z ∷ sizes) e (suc i) = small sizes (both (leb z largestSize) (allSmall sizes) e .1) i
 
-pub fit-small : (sizes : List ℕ) → fitSizes sizes ≡ true → (i : ℕ) → getD sizes i 0 ≤ 2 ^ 62
+pub fit-small : (sizes : List ℕ) → fitSizes sizes ≡ true → (i : ℕ) → getD sizes i 0 ≤ largestSize
 fit-small sizes e = small sizes (both (leb (length sizes) 16) (allSmall sizes) e .1)

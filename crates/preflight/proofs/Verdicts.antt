@@ -1,24 +1,24 @@
 -- The verdict on what an operation lists is what the operation comes to in a preflight. Assumes nothing.
-use Prim.Native.Nat.{ℕ, zero, suc, _+_, _^_, _≤_}
+use Prim.Native.Nat.{ℕ, zero, suc, _+_}
 use mathlib.Core.Path.{_≡_, refl, ap, sym, _∙_}
 use mathlib.Core.Bool.{Bool, true, false, cond, _&&_}
 use mathlib.Core.List.{List}
 use native.Mathlib.Numerals.{add-one}
 use native.Mathlib.Omega.{arith}
 use borrow.Author.Tests.{le-leb}
-use lib.Dec.{leb, ltb}
+use lib.Dec.{ltb}
 use lib.ListN.{length, getD}
 use Rattle.cursor.specs.declared.Lack.{Lack}
 use Rattle.cursor.specs.declared.Lack.the-variants.{Nothing, Lacks}
 use Rattle.cursor.specs.declared.Turn.{Turn}
 use Rattle.cursor.specs.declared.Turn.the-variants as turn
 use Rattle.listing.specs.Listing.{Listing, places, repeated, listed}
-use Rattle.listing.specs.Machine.{Place, Machine}
-use Rattle.places.specs.Places.{placeAt, fits, judgedFrom, judgedOf}
+use Rattle.listing.specs.Machine.{Machine}
+use Rattle.places.specs.Places.{placeAt, fits, judgedFrom, largestSize, judgedOf}
 use Rattle.places.specs.declared.Judged.{Judged}
-use Rattle.places.specs.declared.Judged.the-variants.{Inside, Outside, TooLarge}
+use Rattle.places.specs.declared.Judged.the-variants.{Outside}
 use Rattle.refusal.specs.Numbers.{numberOf}
-use Rattle.refusal.specs.declared.Refusal.the-variants.{PlaceOutside, UnfitSizes}
+use Rattle.refusal.specs.declared.Refusal.the-variants.{PlaceOutside}
 use Rattle.preflight.specs.Flown.{flownJudged, flownPlaces, flownDue, flownOf}
 use Rattle.preflight.specs.Verdict.{Verdict, pass, fault, widthOf, inside, verdict, fitSizes}
 use Rattle.preflight.specs.declared.flight.Flown.{Flown}
@@ -31,6 +31,10 @@ pub record Placed (M : Machine) : Type 0 where
   pub segment : M .Reg → ℕ
   pub kind : M .Reg → ℕ
   pub same : (g : M .Reg) (offset : ℕ) → M .place (M .item g offset) ≡ record { segment = segment g; offset = offset; kind = kind g }
+
+-- what is known of places if some are due
+abbrev pub spotAt : {M : Machine} → Placed M → (size : ℕ) → Lack → M .Reg → Spot
+spotAt P size lack g = record { size = size; lack = lack; segment = P .segment g; kind = P .kind g }
 
 -- what the operation at p comes to decides, with k operations read before it; `rest` is the verdict on those behind it, from an offset on
 abbrev pub decided : (p k : ℕ) → (ℕ → Verdict) → Flown → Verdict
@@ -71,33 +75,29 @@ module _ (M : Machine) (P : Placed M) (size : ℕ) (sizes : List ℕ) (g : M .Re
         branch (fits (widthOf size (P .kind g)) (getD sizes (P .segment g) 0) (placeAt o a i)) _ p k i there _ _
         (inside-at (placeAt o a i) has) (verdict-places has o a (suc i) n m (omega arith))
 
-    module _ (fit : fitSizes sizes ≡ true) (lack : Lack) (o : ℕ) where
-      abbrev spot : Spot
-      spot = record { size = size; lack = lack; segment = P .segment g; kind = P .kind g }
-
+    module _ (fit : fitSizes sizes ≡ true) (o : ℕ) where
       by-segment : (a left : ℕ) (b : Bool) → ltb (P .segment g) (length sizes) ≡ b →
           verdict M size sizes (places M p g o a 0 (suc left) (rest (placeAt o a (suc left))))
           ≡ decided p k there
           (cond b (flownJudged (judgedOf o a left (widthOf size (P .kind g)) (getD sizes (P .segment g) 0))) (Fault PlaceOutside 0))
       by-segment a left true has =
           verdict-places has o a 0 (suc left) (suc left) (omega arith)
-          ∙ unfold judgedOf in rw (le-leb (getD sizes (P .segment g) 0) (2 ^ 62) (fit-small sizes fit (P .segment g)))
+          ∙ unfold judgedOf in rw (le-leb (getD sizes (P .segment g) 0) largestSize (fit-small sizes fit (P .segment g)))
       by-segment a left false hasn't = unfold verdict places in outer _ p 0 _ (inside-at (placeAt o a 0) hasn't)
 
       verdict-due : (a left : ℕ) (l : Lack) →
           verdict M size sizes (repeated M p g o a (suc left) (rest (placeAt o a (suc left))) l)
-          ≡ decided p k there (flownDue spot o a left sizes l)
+          ≡ decided p k there (flownDue (spotAt P size (M .lack g) g) o a left sizes l)
       unfolding repeated flownPlaces
       verdict-due a left Nothing = by-segment a left (ltb (P .segment g) (length sizes)) refl
       verdict-due a left (Lacks e) = unfold verdict in refl
 
   pub verdict-turn : fitSizes sizes ≡ true → (p k : ℕ) (rest : M .Reg → ℕ → Listing (M .Item)) (o : ℕ) (t : Turn) →
       verdict M size sizes (listed M p k g o rest t)
-      ≡ decided p k (λ to. verdict M size sizes (rest g to))
-      (flownOf (record { size = size; lack = M .lack g; segment = P .segment g; kind = P .kind g }) o sizes t)
+      ≡ decided p k (λ to. verdict M size sizes (rest g to)) (flownOf (spotAt P size (M .lack g) g) o sizes t)
   unfolding listed flownOf
   verdict-turn fit p k rest o (turn.On to) = refl
   verdict-turn fit p k rest o turn.Anew = refl
-  verdict-turn fit p k rest o (turn.Due left a) = verdict-due p k (rest g) fit (M .lack g) o a left (M .lack g)
+  verdict-turn fit p k rest o (turn.Due left a) = verdict-due p k (rest g) fit o a left (M .lack g)
   verdict-turn fit p k rest o turn.End = unfold verdict in ap pass (sym (add-one k))
   verdict-turn fit p k rest o (turn.Refused e) = unfold verdict in refl

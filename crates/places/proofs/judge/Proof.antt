@@ -1,6 +1,6 @@
 -- `places::judge` meets its contract: at each return the law for it, whose premises are among the tests. Where the last place is inside no
 -- product passes 2^64, and no step backwards passes 0. Assumes nothing.
-use Prim.Native.Nat.{_+_, _-_, _*_}
+use Prim.Native.Nat.{_+_, _-_}
 use borrow.Author.Needs.{needs}
 use native.Mathlib.Omega.{arith}
 use Rattle.places.proofs.Judgements.{too-large, at-once, still, forth-leaves, forth-stays, back-leaves, back-stays}
