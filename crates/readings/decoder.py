@@ -317,6 +317,7 @@ for kind, size, text in samples("walking.rt", r'^    (rebase|plain|weak|lazy)\(\
 for numbers in samples("flying.rt", r"^    judge\(\s*([0-9, \n]+)\);$"):
     print(judge(*eval(f"[{numbers}]")))
 for kind, size, text, sizes in samples(
-    "flying.rt", r'^    (rebase|plain|weak|lazy)s?\(\s*([0-9]+),\s*(b"[^"]*"),\s*&\[([0-9, \n]*)\],?\s*\);$'
+    "flying.rt", r'^    (rebase|plain|weak|lazy)s?\(\s*([0-9]+),\s*(b"[^"]*"),\s*&\[([0-9;, \n]*)\],?\s*\);$'
 ):
-    print(preflight(kind, int(size), eval(text), eval(f"[{sizes}]")))
+    value, _, times = sizes.partition(";")
+    print(preflight(kind, int(size), eval(text), eval(f"[{value}]") * int(times or 1)))

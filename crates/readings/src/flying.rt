@@ -12,6 +12,7 @@ pub(crate) fn samples() {
     cases();
     counts();
     sizes();
+    refusals();
     binds();
 }
 
@@ -137,44 +138,23 @@ fn counts() {
     );
 }
 
-// Refused before any byte: pointer sizes, and sizes that are too many or too large. Segments with no size.
+// Refused before any byte: pointer sizes, and sizes that are too many or too large. A segment with no size.
 fn sizes() {
     rebases(5, b"\x11\x22\x10\x53\x00", &[0, 0, 40]);
     rebases(5, b"\x11\x22\x10\x53\x00", &[4611686018427387905]);
     rebases(8, b"\x11\x22\x10\x53\x00", &[0, 0, 40, 4611686018427387905]);
-    rebases(
-        8,
-        b"\x11\x22\x10\x53\x00",
-        &[
-            0,
-            0,
-            40,
-            0,
-            0,
-            0,
-            0,
-            0,
-            0,
-            0,
-            0,
-            0,
-            0,
-            0,
-            0,
-            4611686018427387904,
-        ],
-    );
-    rebases(
-        8,
-        b"\x11\x22\x10\x53\x00",
-        &[0, 0, 40, 0, 0, 0, 0, 0, 0, 0, 0, 0, 0, 0, 0, 0, 0],
-    );
+    rebases(8, b"\x11\x22\x10\x53\x00", &[4611686018427387904; 16]);
+    rebases(8, b"\x11\x22\x10\x53\x00", &[40; 17]);
     rebases(8, b"\x11\x22\x10\x53\x00", &[40, 40]);
+}
+
+// No bytes; refused operations; what a place lacks comes before its being outside; a repeat of no places.
+fn refusals() {
     rebases(8, b"", &[40]);
     rebases(8, b"\x22", &[40]);
+    rebases(8, b"\x11\x90\x51", &[40]);
     rebases(8, b"\x11\x51", &[40]);
     rebases(8, b"\x20\x28\x51", &[40]);
-    rebases(8, b"\x11\x90\x51", &[40]);
     rebases(8, b"\x2f\x00\x60\x00\x00", &[40]);
 }
 
