@@ -1,5 +1,5 @@
--- A kind of opcode stream: its table of opcodes, what each operation does, and what a place gives and where it is. The registers are what a walk keeps
--- beside its cursor: what operations have set but for the offset, and what kind of walk it is.
+-- A kind of opcode stream: its table of opcodes, what each operation does, what a place gives, and where that lies. The registers are what
+-- a walk keeps beside its cursor: what operations have set but for the offset, and what kind of walk it is.
 use Prim.Native.Nat.{ℕ}
 use mathlib.Core.List.{List}
 use Rattle.cursor.specs.declared.Lack.{Lack}
