@@ -19,7 +19,7 @@ use Rattle.listing.specs.Call.{State, state, Begin, beginFrom, begin, An
 use Rattle.listing.specs.Machine.{Effect, _and_, Machine}
 use Rattle.listing.specs.Stream.{Stream, before, streamAt}
 use Rattle.listing.proofs.Runs.{call-by}
-use Rattle.listing.proofs.Streams.{ends-within, stream-by}
+use Rattle.listing.proofs.Streams.{fewer-left, stream-by}
 use Rattle.operations.specs.Table.{Parsed, operation, operationAt}
 
 -- ---- a start, by what the cursor's start is
@@ -84,7 +84,7 @@ module _ (M : Machine) {s : List ℕ} {given : State (M .Reg)} {a : Answer (M .R
       there = subst (IfOn next) (sym e ∙ u) (if-on c next (turnOf (c .size) (c .offset) n))
 
       pub further : length s - d .at < length s - c .at
-      further = let w = ends-within M s (c .at) (sym p ∙ q) in omega (arith, w .beyond, w .inside, there)
+      further = omega (arith, fewer-left M s (c .at) (sym p ∙ q), there)
 
       pub reads-on : Reading M s given a d h
       unfolding answered

@@ -2,7 +2,7 @@
 use Prim.Native.Nat.{ℕ, zero, suc, _+_, _≤_, _%_, _^_}
 use mathlib.Core.Path.{_≡_, refl, ap, ap₂, sym, _∙_, subst}
 use mathlib.Core.List.{List}
-use mathlib.Core.Bool.{Bool, true, false, cond}
+use mathlib.Core.Bool.{Bool, true, false, cond, and-eq-true-iff}
 use borrow.Author.Tests.{leb-true}
 use lib.Dec.{leb}
 use lib.ListN.{length}
@@ -21,7 +21,6 @@ use Rattle.listing.specs.Machine.{Machine}
 use Rattle.listing.specs.Runs.{Run, stops, fails, gives, Walks, at-end, at-refusal, at-item}
 use Rattle.listing.specs.Stream.{Stream, out, bad, one, streamAt}
 use Rattle.listing.proofs.Streams.{behind}
-use Rattle.operations.proofs.Rows.{both}
 use Rattle.refusal.specs.Numbers.{numberOf}
 use Rattle.refusal.specs.declared.Refusal.the-variants.{StateOutOfRange}
 
@@ -42,7 +41,7 @@ pub record InRange (c : Cursor) (len : ℕ) : Type 0 where
 
 pub in-range : (c : Cursor) (len : ℕ) → inRange c len ≡ true → InRange c len
 in-range c len e =
-    let b = both (leb (c .at) len) (isPointerSize (c .size)) e in
+    let b = and-eq-true-iff (leb (c .at) len) (isPointerSize (c .size)) .0 e in
     record { inside = leb-true (c .at) len (b .0); sized = b .1 }
 
 module _ (M : Machine) (s : List ℕ) (w : State (M .Reg)) where

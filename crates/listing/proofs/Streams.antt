@@ -1,5 +1,5 @@
 -- The operations of a stream from a place on: none, one that is refused, or one and those from the place behind it. Assumes nothing.
-use Prim.Native.Nat.{ℕ, zero, suc, _+_, _≤_, _<_}
+use Prim.Native.Nat.{ℕ, zero, suc, _+_, _-_, _≤_, _<_}
 use mathlib.Core.Path.{_≡_, refl, ap, sym, _∙_, subst}
 use mathlib.Core.List.{List}
 use native.Mathlib.Omega.{arith}
@@ -19,6 +19,9 @@ module _ (M : Machine) (s : List ℕ) where
   -- an operation ends behind its place, and within the bytes
   pub ends-within : (at : ℕ) {op : M .Op} {next : ℕ} → there at ≡ operation op next → Within s at next
   ends-within at e = operation-read s at (M .table) e
+
+  pub fewer-left : (at : ℕ) {op : M .Op} {next : ℕ} → there at ≡ operation op next → length s - next < length s - at
+  fewer-left at e = let w = ends-within at e in omega (arith, w .beyond, w .inside)
 
   before-same : (at : ℕ) (r q : ℕ → Stream (M .Op)) (p : Parsed (M .Op)) → there at ≡ p → ((next : ℕ) → at < next → r next ≡ q next) →
       before M at r p ≡ before M at q p

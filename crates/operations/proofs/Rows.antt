@@ -1,7 +1,7 @@
 -- What the definitions say of a byte, by the tests that a parser makes: for `search`. Assumes nothing.
 use Prim.Native.Nat.{ℕ, zero, suc, _+_, _*_, _/_, _%_, _≤_, _<_, zero-le}
 use mathlib.Core.Path.{_≡_, refl, sym, _∙_}
-use mathlib.Core.Bool.{Bool, true, false, _&&_}
+use mathlib.Core.Bool.{Bool, true, _&&_, and-eq-true-iff}
 use mathlib.Core.List.{List, [], _∷_}
 use native.Mathlib.Omega.{arith}
 use borrow.Author.Tests.{lt-ltb, le-ltb, ltb-true, ne-eqb}
@@ -62,17 +62,13 @@ at-least : (k n : ℕ) → NoneOf k n → k ≤ n
 at-least zero n h = zero-le
 at-least (suc k) n h = let l = at-least k n (h .0) in let d = h .1 in omega arith
 
-pub both : (a b : Bool) → a && b ≡ true → (a ≡ true) × (b ≡ true)
-both true b e = (refl, e)
-both false b e = (e, cc)
-
 module _ {Op : Type 0} (s : List ℕ) (at : ℕ) where
   no-row : (bound opcode : ℕ) → bound ≤ opcode → (rows : List (Row Op)) → allBelow bound rows ≡ true →
       faulty UnknownOpcode ≡ rowAt s at opcode rows
   unfolding rowAt
   no-row bound opcode h [] e = refl
   no-row bound opcode h (k ⇒ operands ∷ rows) e =
-      let l = both (ltb k bound) (allBelow bound rows) e in
+      let l = and-eq-true-iff (ltb k bound) (allBelow bound rows) .0 e in
       rw (ne-eqb opcode k (λ q. let m = ltb-true k bound (l .0) in omega arith)) (no-row bound opcode h rows (l .1))
 
 module _ {Op : Type 0} (table : ℕ → List (Row Op)) (s : List ℕ) (at : ℕ) where

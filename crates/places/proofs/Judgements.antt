@@ -3,17 +3,17 @@ use Prim.Native.Nat.{ℕ, suc, _+_, _-_, _*_, _/_, _%_, _^_, _≤_, _<_}
 use mathlib.Core.Path.{_≡_, ap, sym, _∙_}
 use native.Mathlib.Omega.{arith}
 use borrow.Author.Tests.{lt-leb}
-use Rattle.places.specs.Places.{placeAt, judgedOf}
+use Rattle.places.specs.Places.{placeAt, largestSize, judgedOf}
 use Rattle.places.specs.declared.Judged.the-variants.{Inside, Outside, TooLarge}
 use Rattle.places.proofs.Search.{none-outside, one-outside}
 use Rattle.places.proofs.Steps.{forth-in, forth-out, back-in, back-out, back-behind}
 
 module _ (o a left w z : ℕ) where
-  pub too-large : 2 ^ 62 < z → TooLarge ≡ judgedOf o a left w z
+  pub too-large : largestSize < z → TooLarge ≡ judgedOf o a left w z
   unfolding judgedOf
-  too-large h = sym (rw (lt-leb z (2 ^ 62) h))
+  too-large h = sym (rw (lt-leb z largestSize h))
 
-  module _ (z≤ : z ≤ 2 ^ 62) where
+  module _ (z≤ : z ≤ largestSize) where
     pub at-once : o < 2 ^ 64 → z < o + w → Outside 0 ≡ judgedOf o a left w z
     unfolding placeAt
     at-once b h = one-outside o a w z z≤ left 0 (omega arith) (λ k p. absurd (omega arith)) (omega arith)

@@ -1,12 +1,12 @@
 -- What the search answers: the offset behind the places where every one is inside, and j where place j is outside and each before it is
 -- inside. Assumes nothing.
-use Prim.Native.Nat.{ℕ, zero, suc, _+_, _^_, _≤_, _<_}
+use Prim.Native.Nat.{ℕ, zero, suc, _+_, _≤_, _<_}
 use mathlib.Core.Path.{_≡_, ap, sym, _∙_}
 use mathlib.Core.Logic.{⊎-elim}
 use native.Mathlib.Nat.{eq-or-lt-of-le, le-refl}
 use native.Mathlib.Omega.{arith}
 use borrow.Author.Tests.{le-leb, lt-leb}
-use Rattle.places.specs.Places.{placeAt, fits, judgedFrom, judgedOf}
+use Rattle.places.specs.Places.{placeAt, fits, judgedFrom, largestSize, judgedOf}
 use Rattle.places.specs.declared.Judged.the-variants.{Inside, Outside}
 
 module _ (o a w z : ℕ) where
@@ -29,13 +29,13 @@ module _ (o a w z : ℕ) where
       (λ (s : i < j). rw (le-leb _ _ (h i (le-refl i) s), judgedFrom) (one-from (suc i) n j s (omega arith) (λ k u v. h k (omega arith) v) e))
       (eq-or-lt-of-le p)
 
-  module _ (z≤ : z ≤ 2 ^ 62) (left : ℕ) where
+  module _ (z≤ : z ≤ largestSize) (left : ℕ) where
     pub none-outside : ((k : ℕ) → k ≤ left → In k) → Inside (placeAt o a (suc left)) ≡ judgedOf o a left w z
     unfolding judgedOf
     none-outside h =
-        sym (rw (le-leb z (2 ^ 62) z≤) (none-from 0 (suc left) (λ k p q. h k (omega arith)) ∙ ap (λ (k : ℕ). Inside (placeAt o a k)) (omega arith)))
+        sym (rw (le-leb z largestSize z≤) (none-from 0 (suc left) (λ k p q. h k (omega arith)) ∙ ap (λ (k : ℕ). Inside (placeAt o a k)) (omega arith)))
 
     pub one-outside : (j : ℕ) → j ≤ left → ((k : ℕ) → k < j → In k) → z < placeAt o a j + w → Outside j ≡ judgedOf o a left w z
     unfolding judgedOf
     one-outside j q h e =
-        sym (rw (le-leb z (2 ^ 62) z≤) (one-from 0 (suc left) j (omega arith) (omega arith) (λ k p. h k) e))
+        sym (rw (le-leb z largestSize z≤) (one-from 0 (suc left) j (omega arith) (omega arith) (λ k p. h k) e))

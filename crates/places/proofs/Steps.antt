@@ -18,9 +18,6 @@ module _ (o a last : ℕ) (pos : 0 < a) (o≤ : o ≤ last) where
   unfolding placeAt
   forth-out b = omega (arith, div-mul-le-self (last - o) a, lt-div-mul-add {a = last - o} pos)
 
-pub back-room : (o back : ℕ) → 0 < back → (i : ℕ) → i ≤ o / back → i * back ≤ o
-back-room o back pos i h = le-div-iff-mul-le pos .0 h
-
 -- an advance of `a` is a step of `back` backwards
 module _ (o a back last : ℕ) (pos : 0 < back) (o≤ : o ≤ last) (e : a + back ≡ 2 ^ 64) where
   times : (i : ℕ) → i * (a + back) ≡ i * 2 ^ 64
@@ -28,7 +25,7 @@ module _ (o a back last : ℕ) (pos : 0 < back) (o≤ : o ≤ last) (e : a + bac
 
   pub back-in : last < 2 ^ 64 → (i : ℕ) → i ≤ o / back → placeAt o a i ≤ last
   unfolding placeAt
-  back-in b i h = omega (arith, times i, back-room o back pos i h)
+  back-in b i h = omega (arith, times i, le-div-iff-mul-le pos .0 h)
 
   pub back-out : last + back < 2 ^ 64 → last < placeAt o a (o / back + 1)
   unfolding placeAt
@@ -36,4 +33,4 @@ module _ (o a back last : ℕ) (pos : 0 < back) (o≤ : o ≤ last) (e : a + bac
 
   pub back-behind : (i : ℕ) → i ≤ o / back → (o - i * back + a) % 2 ^ 64 ≡ placeAt o a (suc i)
   unfolding placeAt
-  back-behind i h = omega (arith, times i, back-room o back pos i h)
+  back-behind i h = omega (arith, times i, le-div-iff-mul-le pos .0 h)

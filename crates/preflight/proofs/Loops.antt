@@ -5,13 +5,14 @@ use mathlib.Core.Bool.{Bool, true, false, not, cond}
 use mathlib.Core.List.{List}
 use native.Mathlib.Numerals.{add-one}
 use native.Mathlib.Omega.{arith}
+use borrow.Author.Tests.{not-true, not-false}
 use lib.ListN.{length}
 use Rattle.cursor.specs.Cursor.{isPointerSize, startOf, atStart}
 use Rattle.cursor.specs.Motion.{turnOf}
 use Rattle.cursor.specs.declared.Lack.{Lack}
 use Rattle.cursor.specs.declared.Motion.{Motion}
 use Rattle.cursor.specs.declared.Start.the-variants as start
-use Rattle.listing.proofs.Streams.{ends-within, stream-by}
+use Rattle.listing.proofs.Streams.{ends-within, fewer-left, stream-by}
 use Rattle.listing.specs.Call.{Begin, begun, notBegun, beginFrom, begin}
 use Rattle.listing.specs.Listing.{listed, listingOf, listing}
 use Rattle.listing.specs.Machine.{Effect, _and_, Machine}
@@ -24,14 +25,6 @@ use Rattle.preflight.specs.Verdict.{Verdict, fault, verdict, fitSizes, w
 use Rattle.preflight.specs.declared.flight.Flown.{Flown}
 use Rattle.preflight.specs.declared.flight.Flown.the-variants.{On}
 use Rattle.preflight.proofs.Verdicts.{Placed, spotAt, decided, verdict-turn}
-
-is-false : (b : Bool) → not b ≡ true → b ≡ false
-is-false true e = cc
-is-false false e = refl
-
-is-true : (b : Bool) → not b ≡ false → b ≡ true
-is-true true e = refl
-is-true false e = cc
 
 -- ---- the loop
 
@@ -50,11 +43,11 @@ module _ (M : Machine) (size : ℕ) (sizes s : List ℕ) where
   module _ (g : M .Reg) {b : Bool} (e : b ≡ fitSizes sizes) where
     pub not-fit : not b ≡ true → {y : Verdict} → y ≡ fault (numberOf UnfitSizes) 0 0 → y ≡ withSizes M g size sizes s
     unfolding withSizes
-    not-fit f h = h ∙ sym (rw (sym e ∙ is-false b f))
+    not-fit f h = h ∙ sym (rw (sym e ∙ not-true b f))
 
     pub takes-off : not b ≡ false → Flying (withSizes M g size sizes s) 0 0 g 0
     unfolding withSizes listing
-    takes-off f = let fit = sym e ∙ is-true b f in record { same = rw fit; few = omega arith; fit = fit }
+    takes-off f = let fit = sym e ∙ not-false b f in record { same = rw fit; few = omega arith; fit = fit }
 
 module _ {M : Machine} (P : Placed M) {size : ℕ} {sizes s : List ℕ} {v : Verdict} {at k : ℕ} {g : M .Reg} {o : ℕ} (r : Flying M size sizes s v at k g o)
     {x : Parsed (M .Op)} (p : x ≡ operationAt (M .table) s at) where
@@ -65,7 +58,7 @@ module _ {M : Machine} (P : Placed M) {size : ℕ} {sizes s : List ℕ} {v : Ver
 
   module _ {op : M .Op} {next : ℕ} (q : x ≡ operation op next) where
     pub further : length s - next < length s - at
-    further = let w = ends-within M s at (sym p ∙ q) in omega (arith, w .beyond, w .inside)
+    further = fewer-left M s at (sym p ∙ q)
 
     pub counts : length s < 2 ^ 64 → k + 1 < 2 ^ 64
     counts h = let w = ends-within M s at (sym p ∙ q) in omega (arith, w .beyond, w .inside, r .few)

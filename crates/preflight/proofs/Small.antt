@@ -1,7 +1,7 @@
 -- The sizes of the segments: what the loop over them finds, and that each that is fit is small. Assumes nothing.
 use Prim.Native.Nat.{ℕ, zero, suc, _+_, _≤_, _<_}
 use mathlib.Core.Path.{_≡_, refl, ap, sym, _∙_}
-use mathlib.Core.Bool.{Bool, true, false, _&&_}
+use mathlib.Core.Bool.{Bool, true, false, _&&_, and-eq-true-iff}
 use mathlib.Core.List.{List, [], _∷_}
 use native.Mathlib.Numerals.{add-one}
 use native.Mathlib.Omega.{arith}
@@ -50,14 +50,10 @@ pub ruleset size-laws = (too-many, seen-none, seen-all, seen-large, seen-more)
 
 -- ---- each size that is fit is small
 
-both : (a b : Bool) → (a && b) ≡ true → (a ≡ true) × (b ≡ true)
-both true b e = (refl, e)
-both false b e = (e, cc)
-
 small : (sizes : List ℕ) → allSmall sizes ≡ true → (i : ℕ) → getD sizes i 0 ≤ largestSize
 small [] e i = omega arith
-small (z ∷ sizes) e zero = leb-true z largestSize (both (leb z largestSize) (allSmall sizes) e .0)
-small (z ∷ sizes) e (suc i) = small sizes (both (leb z largestSize) (allSmall sizes) e .1) i
+small (z ∷ sizes) e zero = leb-true z largestSize (and-eq-true-iff (leb z largestSize) (allSmall sizes) .0 e .0)
+small (z ∷ sizes) e (suc i) = small sizes (and-eq-true-iff (leb z largestSize) (allSmall sizes) .0 e .1) i
 
 pub fit-small : (sizes : List ℕ) → fitSizes sizes ≡ true → (i : ℕ) → getD sizes i 0 ≤ largestSize
-fit-small sizes e = small sizes (both (leb (length sizes) 16) (allSmall sizes) e .1)
+fit-small sizes e = small sizes (and-eq-true-iff (leb (length sizes) 16) (allSmall sizes) .0 e .1)

@@ -16,12 +16,12 @@ pub(crate) fn decimal(what: &[u8], n: u64) {
 pub(crate) fn decimals(numbers: &[u64]) {
     let mut at = 0;
     while at < numbers.len() {
-        next(numbers[at]);
+        spaced(numbers[at]);
         at = at + 1;
     }
 }
 
-fn next(n: u64) {
+fn spaced(n: u64) {
     decimal(b"", n);
 }
 

@@ -2,9 +2,10 @@
 -- product passes 2^64, and no step backwards passes 0. Assumes nothing.
 use Prim.Native.Nat.{_+_, _-_}
 use borrow.Author.Needs.{needs}
+use native.Mathlib.Nat.{le-div-iff-mul-le}
 use native.Mathlib.Omega.{arith}
 use Rattle.places.proofs.Judgements.{too-large, at-once, still, forth-leaves, forth-stays, back-leaves, back-stays}
-use Rattle.places.proofs.Steps.{forth-room, back-room}
+use Rattle.places.proofs.Steps.{forth-room}
 use Rattle.places.proofs.judge.Statement.{statement}
 use Rattle.places.proofs.judge.Tie as tie
 
@@ -24,7 +25,7 @@ judge-spec =
     (λ c. let s = c .before .before .before .before .before .before .args in
     omega (arith, forth-room (s .offset) (s .advance) (s .size - s .width) (omega arith) (omega arith) (s .left) (omega arith)))
     (λ c κs. search needs)
-    (λ c. forth-stays _ _ _ _ _ (omega arith) (omega arith) (omega arith) (omega arith) (omega arith) (omega arith) (c .wrapping-add-u64 .ensures))
+    (λ c. forth-stays _ _ _ _ _ (omega arith) (omega arith) (omega arith) (omega arith) (omega arith) (omega arith) (omega arith))
     (λ c. search needs)
     (λ c. search needs)
     (λ c. search needs)
@@ -32,7 +33,8 @@ judge-spec =
     (λ c. let s = c .before .before .before .before .before .before .args in
     back-leaves _ _ _ _ _ (omega arith) (omega arith) (omega arith) (18446744073709551615 - s .advance + 1) (omega arith) (omega arith) (omega arith) (omega arith) (omega arith))
     (λ c. let s = c .before .before .before .before .before .before .args in
-    omega (arith, back-room (s .offset) (18446744073709551615 - s .advance + 1) (omega arith) (s .left) (omega arith)))
-    (λ c. back-room _ _ (omega arith) _ (omega arith))
+    omega (arith, le-div-iff-mul-le {k = 18446744073709551615 - s .advance + 1} {x = s .left} {y = s .offset} (omega arith) .0 (omega arith)))
+    (λ c. le-div-iff-mul-le (omega arith) .0 (omega arith))
     (λ c κs. search needs)
-    (λ c. back-stays _ _ _ _ _ (omega arith) (omega arith) (omega arith) _ (omega arith) (omega arith) (omega arith) (omega arith) (c .wrapping-add-u642 .ensures)))
+    (λ c. let s = c .before .before .before .before .before .before .before .args in
+    back-stays _ _ _ _ _ (omega arith) (omega arith) (omega arith) (18446744073709551615 - s .advance + 1) (omega arith) (omega arith) (omega arith) (omega arith) (omega arith)))
