@@ -5,3 +5,4 @@ pub mod Gathered
 pub mod LittleEndian
 pub mod Strings
 pub mod Parts
+pub mod Then

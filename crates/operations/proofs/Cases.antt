@@ -5,38 +5,12 @@ use mathlib.Core.Bool.{Bool, true, false, cond}
 use mathlib.Core.List.{List, [], _∷_}
 use borrow.Author.Tests.{ltb-true, ltb-false}
 use lib.Dec.{ltb, eqb}
-use lib.IntN.{ℤ}
 use lib.ListN.{length, getD}
-use Rattle.numbers.specs.declared.Number.{Number}
-use Rattle.numbers.specs.declared.Number.the-variants as number
-use Rattle.numbers.specs.declared.leb128.Signed.{Signed}
-use Rattle.numbers.specs.declared.leb128.Signed.the-variants as signed
-use Rattle.numbers.specs.declared.strings.Text.{Text}
-use Rattle.numbers.specs.declared.strings.Text.the-variants as text
-use Rattle.operations.specs.Table.{Parsed, faulty, noBytes, Operands, Row, _⇒_, thenNumber, thenSigned, thenText, operandsAt, rowAt, operationAt}
+use Rattle.operations.specs.Table.{Parsed, faulty, noBytes, Operands, Row, _⇒_, operandsAt, rowAt, operationAt}
 use Rattle.refusal.specs.declared.Refusal.{Refusal}
-use Rattle.refusal.specs.declared.Refusal.the-variants.{UnknownOpcode, FaultyOperand}
+use Rattle.refusal.specs.declared.Refusal.the-variants.{UnknownOpcode}
 
 module _ {Op : Type 0} (P : Parsed Op → Type 0) (bad : (e : Refusal) → P (faulty e)) where
-  -- ---- operands, by what was read
-
-  pub by-number : (x : Number) (go : ℕ → ℕ → Parsed Op) → ((v next : ℕ) → x ≡ number.Value v next → P (go v next)) → P (thenNumber x go)
-  unfolding thenNumber
-  by-number (number.Value v next) go h = h v next refl
-  by-number number.Fault go h = bad FaultyOperand
-
-  pub by-signed : (x : Signed) (go : ℤ → ℕ → Parsed Op) → ((v : ℤ) (next : ℕ) → x ≡ signed.Value v next → P (go v next)) → P (thenSigned x go)
-  unfolding thenSigned
-  by-signed (signed.Value v next) go h = h v next refl
-  by-signed signed.Fault go h = bad FaultyOperand
-
-  pub by-text : (x : Text) (go : ℕ → ℕ → ℕ → Parsed Op) → ((start len next : ℕ) → x ≡ text.Found start len next → P (go start len next)) → P (thenText x go)
-  unfolding thenText
-  by-text (text.Found start len next) go h = h start len next refl
-  by-text text.Fault go h = bad FaultyOperand
-
-  -- ---- rows
-
   either : (t : Bool) (x y : Parsed Op) → P x → P y → P (cond t x y)
   either true x y p q = p
   either false x y p q = q

@@ -6,12 +6,13 @@ use mathlib.Core.List.{List}
 use native.Mathlib.Omega.{arith}
 use lib.ListN.{length}
 use Rattle.numbers.proofs.Laws.{Within, uleb-read, sleb-read, string-read}
+use Rattle.numbers.proofs.Then.{by-number, by-signed, by-text}
 use Rattle.numbers.specs.Leb128.{ulebAt, slebAt}
 use Rattle.numbers.specs.Strings.{stringAt}
 use Rattle.refusal.proofs.Unique.{one-each}
 use Rattle.refusal.specs.declared.Refusal.{Refusal}
 use Rattle.operations.specs.Table.{Parsed, operation, faulty, noBytes, Operands, alone, uleb, ulebs, sleb, string, Row, operandsAt, operationAt}
-use Rattle.operations.proofs.Cases.{by-number, by-signed, by-text, each, by-table}
+use Rattle.operations.proofs.Cases.{each, by-table}
 use Rattle.operations.specs.Told.{rebaseTold, bindTold}
 use Rattle.operations.specs.declared.rebase_operation.RebaseOperation.{RebaseOperation}
 use Rattle.operations.specs.declared.rebase_operation.RebaseParse.{RebaseParse}
@@ -37,15 +38,15 @@ module _ {Op : Type 0} (s : List ℕ) (at : ℕ) where
   if-operands : at < length s → (o : Operands Op) → IfRead (operandsAt s (at + 1) o)
   if-operands h (alone op) = record { beyond = omega arith; inside = omega arith }
   if-operands h (uleb make) =
-      by-number IfRead (λ e. tt) (ulebAt s (at + 1)) _ (λ v next e. further (omega arith) (uleb-read s (at + 1) (sym e) refl .within))
+      by-number (ulebAt s (at + 1)) _ _ IfRead tt (λ v next e. further (omega arith) (uleb-read s (at + 1) (sym e) refl .within))
   if-operands h (ulebs make) =
-      by-number IfRead (λ e. tt) (ulebAt s (at + 1)) _
+      by-number (ulebAt s (at + 1)) _ _ IfRead tt
       (λ v next e. let w = uleb-read s (at + 1) (sym e) refl .within in
-      by-number IfRead (λ e. tt) (ulebAt s next) _ (λ u after f. further (omega (arith, w .beyond)) (uleb-read s next (sym f) refl .within)))
+      by-number (ulebAt s next) _ _ IfRead tt (λ u after f. further (omega (arith, w .beyond)) (uleb-read s next (sym f) refl .within)))
   if-operands h (sleb make) =
-      by-signed IfRead (λ e. tt) (slebAt s (at + 1)) _ (λ v next e. further (omega arith) (sleb-read s (at + 1) (sym e) refl .within))
+      by-signed (slebAt s (at + 1)) _ _ IfRead tt (λ v next e. further (omega arith) (sleb-read s (at + 1) (sym e) refl .within))
   if-operands h (string make) =
-      by-text IfRead (λ e. tt) (stringAt s (at + 1)) _ (λ start len next e. further (omega arith) (string-read s (at + 1) (sym e) refl .within))
+      by-text (stringAt s (at + 1)) _ _ IfRead tt (λ start len next e. further (omega arith) (string-read s (at + 1) (sym e) refl .within))
 
   module _ (table : ℕ → List (Row Op)) where
     if-operation : IfRead (operationAt table s at)

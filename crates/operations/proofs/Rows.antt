@@ -6,47 +6,9 @@ use mathlib.Core.List.{List, [], _∷_}
 use native.Mathlib.Omega.{arith}
 use borrow.Author.Tests.{lt-ltb, le-ltb, ltb-true, ne-eqb}
 use lib.Dec.{ltb}
-use lib.IntN.{ℤ}
 use lib.ListN.{length, getD}
-use Rattle.numbers.specs.declared.Number.{Number}
-use Rattle.numbers.specs.declared.Number.the-variants as number
-use Rattle.numbers.specs.declared.leb128.Signed.{Signed}
-use Rattle.numbers.specs.declared.leb128.Signed.the-variants as signed
-use Rattle.numbers.specs.declared.strings.Text.{Text}
-use Rattle.numbers.specs.declared.strings.Text.the-variants as text
-use Rattle.refusal.specs.declared.Refusal.the-variants.{UnknownOpcode, FaultyOperand}
-use Rattle.operations.specs.Table.{Parsed, faulty, noBytes, Row, _⇒_, thenNumber, thenSigned, thenText, rowAt, operationAt}
-
--- ---- operands
-
-module _ {Op : Type 0} (x : Number) (go : ℕ → ℕ → Parsed Op) {r : Number} (e : r ≡ x) where
-  pub number-read : {v next : ℕ} {y : Parsed Op} → r ≡ number.Value v next → y ≡ go v next → y ≡ thenNumber x go
-  unfolding thenNumber
-  number-read f q = rw (sym e ∙ f) q
-
-  pub number-faulty : r ≡ number.Fault → faulty FaultyOperand ≡ thenNumber x go
-  unfolding thenNumber
-  number-faulty f = rw (sym e ∙ f)
-
-module _ {Op : Type 0} (x : Signed) (go : ℤ → ℕ → Parsed Op) {r : Signed} (e : r ≡ x) where
-  pub signed-read : {v : ℤ} {next : ℕ} {y : Parsed Op} → r ≡ signed.Value v next → y ≡ go v next → y ≡ thenSigned x go
-  unfolding thenSigned
-  signed-read f q = rw (sym e ∙ f) q
-
-  pub signed-faulty : r ≡ signed.Fault → faulty FaultyOperand ≡ thenSigned x go
-  unfolding thenSigned
-  signed-faulty f = rw (sym e ∙ f)
-
-module _ {Op : Type 0} (x : Text) (go : ℕ → ℕ → ℕ → Parsed Op) {r : Text} (e : r ≡ x) where
-  pub text-read : {start len next : ℕ} {y : Parsed Op} → r ≡ text.Found start len next → y ≡ go start len next → y ≡ thenText x go
-  unfolding thenText
-  text-read f q = rw (sym e ∙ f) q
-
-  pub text-faulty : r ≡ text.Fault → faulty FaultyOperand ≡ thenText x go
-  unfolding thenText
-  text-faulty f = rw (sym e ∙ f)
-
--- ---- opcodes
+use Rattle.refusal.specs.declared.Refusal.the-variants.{UnknownOpcode}
+use Rattle.operations.specs.Table.{Parsed, faulty, noBytes, Row, _⇒_, rowAt, operationAt}
 
 -- every opcode of a table is below a bound
 abbrev pub allBelow : {Op : Type 0} → ℕ → List (Row Op) → Bool
@@ -88,5 +50,3 @@ module _ {Op : Type 0} (table : ℕ → List (Row Op)) (s : List ℕ) (at : ℕ)
         q
         ∙ rw (lt-ltb at (length s) h)
         (no-row s (at + 1) (k * 16) (getD s at 0 / 16 * 16) (let l = at-least k (getD s at 0 / 16) r in omega arith) (table (getD s at 0 % 16)) e)
-
-pub ruleset row-laws = (number-read, number-faulty, signed-read, signed-faulty, text-read, text-faulty)

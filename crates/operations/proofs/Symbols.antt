@@ -5,9 +5,10 @@ use mathlib.Core.List.{List}
 use native.Mathlib.Omega.{arith}
 use lib.ListN.{length}
 use Rattle.numbers.proofs.Laws.{string-read}
+use Rattle.numbers.proofs.Then.{by-number, by-signed, by-text}
 use Rattle.numbers.specs.Leb128.{ulebAt, slebAt}
 use Rattle.numbers.specs.Strings.{stringAt}
-use Rattle.operations.proofs.Cases.{Each, by-number, by-signed, by-text, by-table}
+use Rattle.operations.proofs.Cases.{Each, by-table}
 use Rattle.operations.specs.Loader.{bindTable}
 use Rattle.operations.specs.Table.{Parsed, operation, faulty, noBytes, uleb, string, operandsAt, operationAt}
 use Rattle.operations.specs.declared.bind_operation.BindOperation.{BindOperation}
@@ -47,11 +48,11 @@ module _ (s : List ℕ) where
   IfNamed noBytes = Unit {0}
 
   with-uleb : (at : ℕ) (make : ℕ → BindOperation) → ((v : ℕ) → NameIn (make v)) → IfNamed (operandsAt s at (uleb make))
-  with-uleb at make h = by-number IfNamed (λ e. tt) (ulebAt s at) _ (λ v next e. h v)
+  with-uleb at make h = by-number (ulebAt s at) _ _ IfNamed tt (λ v next e. h v)
 
   named : (at imm : ℕ) → IfNamed (operandsAt s at (string (SetSymbol imm)))
   named at imm =
-      by-text IfNamed (λ e. tt) (stringAt s at) _
+      by-text (stringAt s at) _ _ IfNamed tt
       (λ start len next e. let r = string-read s at (sym e) refl in omega (arith, r .ends, r .within .inside))
 
   -- row by row
@@ -69,7 +70,7 @@ module _ (s : List ℕ) where
             (
               tt,
               (
-                by-signed IfNamed (λ e. tt) (slebAt s at) _ (λ v next e. tt),
+                by-signed (slebAt s at) _ _ IfNamed tt (λ v next e. tt),
                 (
                   with-uleb at (SetSegmentAndOffset imm) (λ v. tt),
                   (
@@ -80,7 +81,7 @@ module _ (s : List ℕ) where
                         with-uleb at DoBindAddAddr (λ v. tt),
                         (
                           tt,
-                          (by-number IfNamed (λ e. tt) (ulebAt s at) _ (λ v next e. by-number IfNamed (λ e. tt) (ulebAt s next) _ (λ u after f. tt)), tt),
+                          (by-number (ulebAt s at) _ _ IfNamed tt (λ v next e. by-number (ulebAt s next) _ _ IfNamed tt (λ u after f. tt)), tt),
                         ),
                       ),
                     ),

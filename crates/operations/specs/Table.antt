@@ -8,12 +8,7 @@ use lib.IntN.{ℤ}
 use lib.ListN.{length, getD}
 use Rattle.numbers.specs.Leb128.{ulebAt, slebAt}
 use Rattle.numbers.specs.Strings.{stringAt}
-use Rattle.numbers.specs.declared.Number.{Number}
-use Rattle.numbers.specs.declared.Number.the-variants as number
-use Rattle.numbers.specs.declared.leb128.Signed.{Signed}
-use Rattle.numbers.specs.declared.leb128.Signed.the-variants as signed
-use Rattle.numbers.specs.declared.strings.Text.{Text}
-use Rattle.numbers.specs.declared.strings.Text.the-variants as text
+use Rattle.numbers.specs.Then.{thenNumber, thenSigned, thenText}
 use Rattle.refusal.specs.declared.Refusal.{Refusal}
 use Rattle.refusal.specs.declared.Refusal.the-variants.{UnknownOpcode, FaultyOperand}
 
@@ -36,27 +31,16 @@ pub data Row (Op : Type 0) : Type 0 where
 
 infix 70 _⇒_
 module _ {Op : Type 0} where
-  -- ---- operands: what goes on with what was read and the place behind it; a faulty one is refused
-
-  unfoldable pub thenNumber : Number → (ℕ → (next : ℕ) → Parsed Op) → Parsed Op
-  thenNumber (number.Value v next) go = go v next
-  thenNumber number.Fault go = faulty FaultyOperand
-
-  unfoldable pub thenSigned : Signed → (ℤ → (next : ℕ) → Parsed Op) → Parsed Op
-  thenSigned (signed.Value v next) go = go v next
-  thenSigned signed.Fault go = faulty FaultyOperand
-
-  unfoldable pub thenText : Text → ((place length next : ℕ) → Parsed Op) → Parsed Op
-  thenText (text.Found start len next) go = go start len next
-  thenText text.Fault go = faulty FaultyOperand
+  -- ---- operands: a faulty one is refused
 
   abbrev pub operandsAt : List ℕ → ℕ → Operands Op → Parsed Op
   operandsAt s at (alone op) = operation op at
-  operandsAt s at (uleb make) = thenNumber (ulebAt s at) (λ v next. operation (make v) next)
+  operandsAt s at (uleb make) = thenNumber (ulebAt s at) (faulty FaultyOperand) (λ v next. operation (make v) next)
   operandsAt s at (ulebs make) =
-      thenNumber (ulebAt s at) (λ v next. thenNumber (ulebAt s next) (λ u after. operation (make v u) after))
-  operandsAt s at (sleb make) = thenSigned (slebAt s at) (λ v next. operation (make v) next)
-  operandsAt s at (string make) = thenText (stringAt s at) (λ start len next. operation (make start len) next)
+      thenNumber (ulebAt s at) (faulty FaultyOperand)
+      (λ v next. thenNumber (ulebAt s next) (faulty FaultyOperand) (λ u after. operation (make v u) after))
+  operandsAt s at (sleb make) = thenSigned (slebAt s at) (faulty FaultyOperand) (λ v next. operation (make v) next)
+  operandsAt s at (string make) = thenText (stringAt s at) (faulty FaultyOperand) (λ start len next. operation (make start len) next)
 
   -- ---- opcodes: one that the table has not is refused
 

@@ -10,7 +10,8 @@ use Rattle.numbers.specs.Leb128.{ulebAt, slebAt}
 use Rattle.numbers.specs.Parts.{partOf}
 use Rattle.numbers.specs.Runs.{runTo}
 use Rattle.numbers.specs.Strings.{stringAt}
-use Rattle.operations.specs.Table.{thenNumber, thenSigned, thenText, rowAt, operationAt}
+use Rattle.numbers.specs.Then.{thenNumber, thenSigned, thenText}
+use Rattle.operations.specs.Table.{rowAt, operationAt}
 use Rattle.places.specs.Places.{placeAt, fits}
 use Rattle.preflight.specs.Verdict.{inside, verdict, withSizes, preflight}
 use Rattle.worked.specs.Examples.{allNamed, examples, defined, documented}

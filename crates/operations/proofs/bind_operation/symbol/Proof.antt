@@ -1,6 +1,6 @@
 -- `operations::bind_operation::symbol` meets its contract. Assumes nothing.
 use borrow.Author.Needs.{needs}
-use Rattle.operations.proofs.Rows.{row-laws}
+use Rattle.numbers.proofs.Then.{reads}
 use Rattle.operations.proofs.bind_operation.symbol.Statement.{statement}
 use Rattle.operations.proofs.bind_operation.symbol.Tie as tie
 
@@ -11,5 +11,5 @@ symbol-spec =
     (λ c κs. search needs)
     (λ c. search needs)
     (λ c. search needs)
-    (λ c. search row-laws)
-    (λ c. search row-laws))
+    (λ c. search reads)
+    (λ c. search reads))

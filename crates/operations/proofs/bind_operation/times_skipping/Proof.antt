@@ -1,6 +1,6 @@
 -- `operations::bind_operation::times_skipping` meets its contract. Assumes nothing.
 use borrow.Author.Needs.{needs}
-use Rattle.operations.proofs.Rows.{row-laws}
+use Rattle.numbers.proofs.Then.{reads}
 use Rattle.operations.proofs.bind_operation.times_skipping.Statement.{statement}
 use Rattle.operations.proofs.bind_operation.times_skipping.Tie as tie
 
@@ -11,9 +11,9 @@ times-skipping-spec =
     (λ c κs. search needs)
     (λ c. search needs)
     (λ c. search needs)
-    (λ c. search row-laws)
+    (λ c. search reads)
     (λ c κs. search needs)
     (λ c. search needs)
     (λ c. search needs)
-    (λ c. search row-laws)
-    (λ c. search row-laws))
+    (λ c. search reads)
+    (λ c. search reads))
