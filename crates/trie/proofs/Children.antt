@@ -1,0 +1,123 @@
+-- What is known of a child that is found. Assumes nothing.
+use Prim.Native.Nat.{ℕ, _+_, _≤_}
+use mathlib.Core.Path.{_≡_, refl, sym, ap, _∙_, subst}
+use mathlib.Core.Bool.{Bool, true, false, cond}
+use mathlib.Core.List.{List}
+use native.Mathlib.Omega.{arith}
+use borrow.Author.Tests.{ltb-true, ltb-false}
+use lib.Dec.{leb, ltb, eqb}
+use lib.ListN.{length, getD, take}
+use Rattle.numbers.proofs.Laws.{uleb-read, string-read}
+use Rattle.numbers.proofs.Then.{by-number, by-text}
+use Rattle.numbers.specs.Leb128.{ulebAt}
+use Rattle.numbers.specs.Strings.{stringAt}
+use Rattle.refusal.specs.declared.Refusal.the-variants.{FaultyNode, ChildIsOpen, NameTooLong}
+use Rattle.trie.specs.Child.{thenEdge, thenNode, childAt}
+use Rattle.trie.specs.ExportsTrie.{thenExport, exportAt, countedAt, nodeAt, edgeAt}
+use Rattle.trie.specs.Frames.{isOneOf}
+use Rattle.trie.specs.declared.child.Child.{Child}
+use Rattle.trie.specs.declared.child.Child.the-variants.{Found, Refused}
+use Rattle.trie.specs.declared.export.ExportRead.{ExportRead}
+use Rattle.trie.specs.declared.export.ExportRead.the-variants as export
+use Rattle.trie.specs.declared.node.Edge.{Edge}
+use Rattle.trie.specs.declared.node.EdgeRead.{EdgeRead}
+use Rattle.trie.specs.declared.node.EdgeRead.the-variants as edge
+use Rattle.trie.specs.declared.node.Node.{Node}
+use Rattle.trie.specs.declared.node.NodeRead.{NodeRead}
+use Rattle.trie.specs.declared.node.NodeRead.the-variants as node
+use Rattle.trie.specs.declared.node.Terminal.{Terminal}
+use Rattle.trie.specs.declared.node.Terminal.the-variants as terminal
+
+-- ---- an edge and a node lie in the bytes
+
+pub record EdgeIn (s : List ℕ) (e : Edge) : Type 0 where
+  pub next : e .next ≤ length s
+  pub inside : e .place + e .length ≤ length s
+
+abbrev IfEdge : List ℕ → EdgeRead → Type 0
+IfEdge s (edge.Found e) = EdgeIn s e
+IfEdge s edge.Fault = Unit {0}
+
+abbrev IfNode : List ℕ → NodeRead → Type 0
+IfNode s (node.Found n) = n .place ≤ length s
+IfNode s node.Fault = Unit {0}
+
+module _ (s : List ℕ) where
+  edge-by : (at : ℕ) → IfEdge s (edgeAt s at)
+  unfolding edgeAt
+  edge-by at =
+      by-text (stringAt s at) _ _ (IfEdge s) tt
+      (λ place len next f.
+      let t = string-read s at (sym f) refl in
+      by-number (ulebAt s next) _ _ (IfEdge s) tt
+      (λ offset behind g.
+      record { next = uleb-read s next (sym g) refl .within .inside; inside = omega (arith, t .ends, t .within .inside) }))
+
+  pub edge-in : (at : ℕ) {e : Edge} → edgeAt s at ≡ edge.Found e → EdgeIn s e
+  edge-in at f = subst (IfEdge s) f (edge-by at)
+
+  counted-by : (t : Terminal) (at : ℕ) → IfNode s (countedAt s t at)
+  unfolding countedAt
+  counted-by t at = by (ltb at (length s)) refl
+    where
+      by : (b : Bool) → ltb at (length s) ≡ b → IfNode s (cond b (node.Found (record { terminal = t; children = getD s at 0; place = at + 1 })) node.Fault)
+      by true f = let h = ltb-true at (length s) f in omega arith
+      by false f = tt
+
+  node-by : (offset : ℕ) → IfNode s (nodeAt s offset)
+  unfolding nodeAt
+  node-by offset =
+      by-number (ulebAt s offset) _ _ (IfNode s) tt
+      (λ size at f. none at (eqb size 0) _ (area at size (leb (at + size) (length s))))
+    where
+      none : (at : ℕ) (b : Bool) (x : NodeRead) → IfNode s x → IfNode s (cond b (countedAt s terminal.Inner at) x)
+      none at true x h = counted-by terminal.Inner at
+      none at false x h = h
+
+      exports : (at size : ℕ) (x : ExportRead) → IfNode s (thenExport x node.Fault (λ x. countedAt s (terminal.Export x) (at + size)))
+      exports at size (export.Read x) = unfold thenExport in counted-by (terminal.Export x) (at + size)
+      exports at size export.Fault = unfold thenExport in tt
+
+      area : (at size : ℕ) (b : Bool)
+          → IfNode s (cond b (thenExport (exportAt (take (at + size) s) at) node.Fault (λ x. countedAt s (terminal.Export x) (at + size))) node.Fault)
+      area at size true = exports at size (exportAt (take (at + size) s) at)
+      area at size false = tt
+
+  pub node-in : (offset : ℕ) {n : Node} → nodeAt s offset ≡ node.Found n → n .place ≤ length s
+  node-in offset f = subst (IfNode s) f (node-by offset)
+
+-- ---- a child that is found
+
+pub record Read (s : List ℕ) (room : ℕ) (opened : List ℕ) (kept place : ℕ) (e : Edge) (n : Node) : Type 0 where
+  pub edge : edgeAt s place ≡ edge.Found e
+  pub fits : kept + e .length ≤ room
+  pub node : nodeAt s (e .offset) ≡ node.Found n
+
+module _ (s : List ℕ) (room : ℕ) (opened : List ℕ) (kept place : ℕ) where
+  abbrev IfRead : Child → Type 0
+  IfRead (Found e n) = Read s room opened kept place e n
+  IfRead (Refused x) = Unit {0}
+
+  node-step : (e : Edge) → edgeAt s place ≡ edge.Found e → kept + e .length ≤ room → (x : NodeRead) → nodeAt s (e .offset) ≡ x
+      → IfRead (thenNode x (Refused FaultyNode) (λ n. Found e n))
+  unfolding thenNode
+  node-step e f h (node.Found n) g = record { edge = f; fits = h; node = g }
+  node-step e f h node.Fault g = tt
+
+  tests : (e : Edge) → edgeAt s place ≡ edge.Found e → (a b : Bool) → ltb room (kept + e .length) ≡ a
+      → IfRead (cond a (Refused NameTooLong) (cond b (Refused ChildIsOpen) (thenNode (nodeAt s (e .offset)) (Refused FaultyNode) (λ n. Found e n))))
+  tests e f true b g = tt
+  tests e f false true g = tt
+  tests e f false false g = node-step e f (ltb-false room (kept + e .length) g) (nodeAt s (e .offset)) refl
+
+  child-by : IfRead (childAt s room opened kept place)
+  unfolding childAt thenEdge
+  child-by = by (edgeAt s place) refl
+    where
+      by : (x : EdgeRead) → edgeAt s place ≡ x
+          → IfRead (thenEdge x (Refused FaultyNode) (λ e. cond (ltb room (kept + e .length)) (Refused NameTooLong) (cond (isOneOf (e .offset) opened) (Refused ChildIsOpen) (thenNode (nodeAt s (e .offset)) (Refused FaultyNode) (λ n. Found e n)))))
+      by (edge.Found e) f = tests e f (ltb room (kept + e .length)) (isOneOf (e .offset) opened) refl
+      by edge.Fault f = tt
+
+  pub child-read : {r : Child} {e : Edge} {n : Node} → r ≡ childAt s room opened kept place → r ≡ Found e n → Read s room opened kept place e n
+  child-read f g = subst IfRead (sym f ∙ g) child-by

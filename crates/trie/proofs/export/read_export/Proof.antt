@@ -1,0 +1,27 @@
+-- `trie::export::read_export` meets its contract. Assumes nothing.
+use Rattle.numbers.proofs.Then.{reads}
+use Rattle.trie.proofs.Picks.{picks}
+use Rattle.trie.specs.ExportsTrie.{exportAt}
+use borrow.Author.Needs.{needs}
+use Rattle.trie.proofs.export.read_export.Statement.{statement}
+use Rattle.trie.proofs.export.read_export.Tie as tie
+
+pub read-export-spec : {M : Type 1} → statement M
+unfolding exportAt
+read-export-spec =
+    tie.close
+    (tie.spec
+    (λ c κs. search needs)
+    (λ c. search needs)
+    (λ c. search needs)
+    (λ c. search (reads, picks, needs))
+    (λ c. search (reads, picks, needs))
+    (λ c. search needs)
+    (λ c κs. search needs)
+    (λ c. search (reads, picks, needs))
+    (λ c. search needs)
+    (λ c κs. search needs)
+    (λ c. search (reads, picks, needs))
+    (λ c. search needs)
+    (λ c κs. search needs)
+    (λ c. search (reads, picks, needs)))

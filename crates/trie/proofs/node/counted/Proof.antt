@@ -1,0 +1,14 @@
+-- `trie::node::counted` meets its contract. Assumes nothing.
+use Rattle.trie.proofs.Nodes.{not-counted, counted}
+use borrow.Author.Needs.{needs}
+use Rattle.trie.proofs.node.counted.Statement.{statement}
+use Rattle.trie.proofs.node.counted.Tie as tie
+
+pub counted-spec : {M : Type 1} → statement M
+counted-spec =
+    tie.close
+    (tie.spec
+    (λ c. search (not-counted, counted, needs))
+    (λ c. search needs)
+    (λ c. search needs)
+    (λ c. search (not-counted, counted, needs)))

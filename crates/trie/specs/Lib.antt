@@ -1,0 +1,6 @@
+pub mod ExportsTrie
+pub mod Frames
+pub mod Child
+pub mod Listing
+pub mod Call
+pub mod Told

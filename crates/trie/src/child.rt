@@ -1,0 +1,59 @@
+// The next child of an open node.
+ghost use mathlib.Core.Path.{_≡_};
+ghost use Prim.Native.Nat.{_+_, _≤_};
+ghost use lib.Dec.{ltb};
+ghost use Rattle.trie.specs.Child.{childAt};
+ghost use Rattle.trie.specs.Frames.{topDown};
+use crate::frames::is_open;
+use crate::node::Edge;
+use crate::node::EdgeRead;
+use crate::node::Node;
+use crate::node::NodeRead;
+use crate::node::read_edge;
+use crate::node::read_node;
+use refusal::Refusal;
+
+pub(crate) enum Child {
+    Found(Edge, Node),
+    Refused(Refusal),
+}
+
+// The child whose edge is at a place. The first `depth` of the offsets are those of the open nodes,
+// and the name of the one on top has `kept` bytes.
+pub(crate) fn read_child(
+    s: &[u8],
+    room: usize,
+    offsets: &[u64; 256],
+    depth: usize,
+    kept: u64,
+    place: u64,
+) -> Child
+    requires { ⌜ depth ≤ 256 ⌝ }
+    ensures { λ r. ⌜ r ≡ childAt (now (s .entry)) room (topDown (now (offsets .entry)) depth) kept place ⌝ }
+{
+    let EdgeRead::Found(edge) = read_edge(s, place as usize) else {
+        return Child::Refused(Refusal::FaultyNode);
+    };
+    let long = is_long(kept, edge.length, room);
+    let open = is_open(offsets, depth, edge.offset);
+    if long {
+        return Child::Refused(Refusal::NameTooLong);
+    }
+    if open {
+        return Child::Refused(Refusal::ChildIsOpen);
+    }
+    let NodeRead::Found(node) = read_node(s, edge.offset) else {
+        return Child::Refused(Refusal::FaultyNode);
+    };
+    Child::Found(edge, node)
+}
+
+// Whether a name of so many bytes and so many more is longer than the room.
+fn is_long(kept: u64, more: usize, room: usize) -> bool
+    ensures { λ r. ⌜ r ≡ ltb room (kept + more) ⌝ }
+{
+    if (room as u64) < kept {
+        return true;
+    }
+    (room as u64) - kept < more as u64
+}

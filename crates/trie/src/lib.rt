@@ -1,0 +1,192 @@
+// The walk over an exports trie: a state goes in, with a lent buffer for names and a limit of nodes;
+// an export, the end, a refusal, or that there is more comes out, with the next state and the number
+// of nodes visited.
+ghost use mathlib.Core.Path.{_≡_};
+ghost use Prim.Native.Nat.{_-_, _≤_, _<_};
+ghost use Rattle.trie.specs.Call.{atStart, marked, opened, onward, visitRoot, call};
+ghost use Rattle.trie.specs.ExportsTrie.{nodeAt};
+ghost use Rattle.trie.specs.Told.{told};
+ghost use Rattle.trie.specs.declared.TrieAnswer.the-variants.{Refused};
+
+mod child;
+pub mod export;
+mod frames;
+mod names;
+mod node;
+
+use child::Child;
+use child::read_child;
+use export::Export;
+use frames::open_nodes;
+use frames::out_of_range;
+use frames::still_open;
+use names::put;
+use node::NodeRead;
+use node::Terminal;
+use node::read_node;
+use numbers::parts::part;
+use refusal::Refusal;
+
+// The first `depth` elements of each array are those of the open nodes, the one on top last: where its
+// next edge is read, its offset, how many of its children are left, and the length of its name. Whether
+// the root has been visited, and whether the walk has ended.
+pub struct TrieWalk {
+    pub places: [u64; 256],
+    pub offsets: [u64; 256],
+    pub left: [u8; 256],
+    pub lengths: [u64; 256],
+    pub depth: usize,
+    pub begun: bool,
+    pub ended: bool,
+}
+
+// The name of an export is the first `length` bytes of the lent buffer.
+pub enum TrieAnswer {
+    Export { length: u64, export: Export },
+    More,
+    End,
+    Refused(Refusal),
+}
+
+pub struct TrieStep {
+    pub answer: TrieAnswer,
+    pub walk: TrieWalk,
+    pub visits: u64,
+}
+
+impl TrieWalk {
+    pub fn start() -> Self
+        ensures { λ r. ⌜ r ≡ atStart ⌝ }
+    {
+        Self {
+            places: [0; 256],
+            offsets: [0; 256],
+            left: [0; 256],
+            lengths: [0; 256],
+            depth: 0,
+            begun: false,
+            ended: false,
+        }
+    }
+
+    // At most `limit` nodes are visited, until there is something to answer.
+    pub fn step(self, s: &[u8], name: &mut [u8], limit: u64) -> TrieStep
+        ensures { λ r. ⌜ (told r, now (name .exit)) ≡ call (now (s .entry)) limit self (now (name .entry)) ⌝ }
+    {
+        let depth = open_nodes(self.begun, self.depth);
+        if out_of_range(&self.places, &self.lengths, depth, s.len(), name.len()) {
+            return self.answer(TrieAnswer::Refused(Refusal::StateOutOfRange), 0);
+        }
+        if self.ended {
+            return self.answer(TrieAnswer::End, 0);
+        }
+        if limit == 0 {
+            return self.answer(TrieAnswer::More, 0);
+        }
+        if self.begun {
+            return self.onward(self, s, name, limit, 0);
+        }
+        self.root(s, name, limit)
+    }
+
+    // The first visit of a walk, and what follows it.
+    fn root(self, s: &[u8], name: &mut [u8], limit: u64) -> TrieStep
+        requires { ⌜ 0 < limit ⌝ }
+        ensures { λ r. ⌜ (told r, now (name .exit)) ≡ visitRoot (now (s .entry)) self (limit - 1) (now (name .entry)) (nodeAt (now (s .entry)) 0) ⌝ }
+    {
+        let NodeRead::Found(node) = read_node(s, 0) else {
+            return self.refused(Refusal::FaultyNode, 0);
+        };
+        let w = self.rooted(node.place as u64, node.children);
+        let terminal = node.terminal;
+        match terminal {
+            Terminal::Inner => self.onward(w, s, name, limit, 1),
+            Terminal::Export(export) => w.answer(TrieAnswer::Export { length: 0, export }, 1),
+        }
+    }
+
+    // The walk stands at `from`, with `done` nodes visited; `self` is the state as it was given. The
+    // arrays change in place, since every call that takes a state by value copies them.
+    fn onward(self, from: TrieWalk, s: &[u8], name: &mut [u8], limit: u64, done: u64) -> TrieStep
+        requires { ⌜ (from .depth ≤ 256) × (done ≤ limit) ⌝ }
+        ensures { λ r. ⌜ (told r, now (name .exit)) ≡ onward (now (s .entry)) self (limit - done) done from (now (name .entry)) ⌝ }
+    {
+        let mut w = from;
+        let mut visits = done;
+        loop {
+            let depth = still_open(&w.left, w.depth);
+            w.depth = depth;
+            if depth == 0 {
+                w.ended = true;
+                return w.answer(TrieAnswer::End, visits);
+            }
+            if limit <= visits {
+                return w.answer(TrieAnswer::More, visits);
+            }
+            let top = depth - 1;
+            let kept = w.lengths[top];
+            let place = w.places[top];
+            match read_child(s, name.len(), &w.offsets, depth, kept, place) {
+                Child::Refused(e) => {
+                    return self.refused(e, visits);
+                }
+                Child::Found(edge, node) => {
+                    if 256 <= depth {
+                        return self.refused(Refusal::TooManyOpenNodes, visits);
+                    }
+                    put(part(s, edge.place, edge.length), name, kept as usize);
+                    let length = kept + edge.length as u64;
+                    w.places[top] = edge.next as u64;
+                    w.left[top] -= 1;
+                    w.places[depth] = node.place as u64;
+                    w.offsets[depth] = edge.offset;
+                    w.left[depth] = node.children;
+                    w.lengths[depth] = length;
+                    w.depth = depth + 1;
+                    w.begun = true;
+                    visits += 1;
+                    let terminal = node.terminal;
+                    match terminal {
+                        Terminal::Inner => {}
+                        Terminal::Export(export) => {
+                            return w.answer(TrieAnswer::Export { length, export }, visits);
+                        }
+                    }
+                }
+            }
+        }
+    }
+
+    // The root is opened.
+    fn rooted(self, place: u64, children: u8) -> Self
+        ensures { λ r. ⌜ r ≡ opened 0 place 0 children 0 self ⌝ }
+    {
+        let mut w = self;
+        w.places[0] = place;
+        w.offsets[0] = 0;
+        w.left[0] = children;
+        w.lengths[0] = 0;
+        w.depth = 1;
+        w.begun = true;
+        w
+    }
+
+    // The state as it was given, marked as ended.
+    fn refused(self, e: Refusal, visits: u64) -> TrieStep
+        ensures { λ r. ⌜ r ≡ record { answer = Refused e; walk = marked self; visits = visits } ⌝ }
+    {
+        let mut w = self;
+        w.ended = true;
+        w.answer(TrieAnswer::Refused(e), visits)
+    }
+
+    fn answer(self, answer: TrieAnswer, visits: u64) -> TrieStep
+        ensures { λ r. ⌜ r ≡ record { answer = answer; walk = self; visits = visits } ⌝ }
+    {
+        TrieStep {
+            answer,
+            walk: self,
+            visits,
+        }
+    }
+}

@@ -1,0 +1,98 @@
+// The nodes of the exports trie, and the edges to their children.
+ghost use mathlib.Core.Path.{_≡_};
+ghost use Rattle.trie.specs.ExportsTrie.{countedAt, nodeAt, edgeAt};
+use crate::export::Export;
+use crate::export::ExportRead;
+use crate::export::read_export;
+use numbers::Number;
+use numbers::leb128::read_uleb;
+use numbers::strings::Text;
+use numbers::strings::read_string;
+
+// Whether a node exports a symbol of its name, and which.
+pub(crate) enum Terminal {
+    Inner,
+    Export(Export),
+}
+
+// What a node exports, how many children it has, and the place of the first edge.
+pub(crate) struct Node {
+    pub terminal: Terminal,
+    pub children: u8,
+    pub place: usize,
+}
+
+pub(crate) enum NodeRead {
+    Found(Node),
+    Fault,
+}
+
+// The place and length of an edge's string, the offset of the child's node, and the place behind.
+pub(crate) struct Edge {
+    pub place: usize,
+    pub length: usize,
+    pub offset: u64,
+    pub next: usize,
+}
+
+pub(crate) enum EdgeRead {
+    Found(Edge),
+    Fault,
+}
+
+// The node at an offset.
+pub(crate) fn read_node(s: &[u8], offset: u64) -> NodeRead
+    ensures { λ r. ⌜ r ≡ nodeAt (now (s .entry)) offset ⌝ }
+{
+    let Number::Value(size, at) = read_uleb(s, offset as usize) else {
+        return NodeRead::Fault;
+    };
+    if size == 0 {
+        return counted(s, Terminal::Inner, at);
+    }
+    if ((s.len() - at) as u64) < size {
+        return NodeRead::Fault;
+    }
+    let end = at + size as usize;
+    let ExportRead::Read(export) = read_export(&s[0..end], at) else {
+        return NodeRead::Fault;
+    };
+    counted(s, Terminal::Export(export), end)
+}
+
+// A node from the number of its children on.
+fn counted(s: &[u8], terminal: Terminal, at: usize) -> NodeRead
+    ensures { λ r. ⌜ r ≡ countedAt (now (s .entry)) terminal at ⌝ }
+{
+    if s.len() <= at {
+        return NodeRead::Fault;
+    }
+    NodeRead::Found(Node {
+        terminal,
+        children: s[at],
+        place: at + 1,
+    })
+}
+
+// The edge at a place.
+pub(crate) fn read_edge(s: &[u8], at: usize) -> EdgeRead
+    ensures { λ r. ⌜ r ≡ edgeAt (now (s .entry)) at ⌝ }
+{
+    let Text::Found {
+        start: place,
+        len: length,
+        next,
+    } = read_string(s, at)
+    else {
+        return EdgeRead::Fault;
+    };
+    let Number::Value(offset, behind) = read_uleb(s, next) else {
+        return EdgeRead::Fault;
+    };
+    EdgeRead::Found(Edge {
+        place,
+        length,
+        offset,
+        next: behind,
+    })
+}
