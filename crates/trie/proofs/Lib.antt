@@ -5,3 +5,6 @@ pub mod Puts
 pub mod Children
 pub mod Visits
 pub mod Calls
+pub mod Ahead
+pub mod Tells
+pub mod Joined

@@ -32,7 +32,7 @@ at-most-by : (x d : ℕ) (t : Bool) → x ≤ d → cond t x (suc d) ≤ suc d
 at-most-by x d true h = omega arith
 at-most-by x d false h = omega arith
 
-still-at-most : (left : List ℕ) (d : ℕ) → stillOpen left d ≤ d
+pub still-at-most : (left : List ℕ) (d : ℕ) → stillOpen left d ≤ d
 unfolding stillOpen
 still-at-most left zero = omega arith
 still-at-most left (suc d) = at-most-by (stillOpen left d) d (eqb (getD left d 0) 0) (still-at-most left d)
@@ -44,7 +44,7 @@ has-child-by left x d false e h n =
     let s : suc d - 1 ≡ d = omega arith in
     rw s (pos-of-ne-zero (eqb-false (getD left d 0) 0 e))
 
-has-child : (left : List ℕ) (d : ℕ) → (stillOpen left d ≡ 0 → ⊥) → 0 < getD left (stillOpen left d - 1) 0
+pub has-child : (left : List ℕ) (d : ℕ) → (stillOpen left d ≡ 0 → ⊥) → 0 < getD left (stillOpen left d - 1) 0
 unfolding stillOpen
 has-child left zero n = absurd (n refl)
 has-child left (suc d) n = has-child-by left (stillOpen left d) d (eqb (getD left d 0) 0) refl (has-child left d) n

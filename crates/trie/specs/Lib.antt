@@ -4,3 +4,4 @@ pub mod Child
 pub mod Listing
 pub mod Call
 pub mod Told
+pub mod Joined

@@ -1,0 +1,284 @@
+-- What a walk has still to list, and that the next child is the first of it. Assumes nothing.
+use Prim.Native.Nat.{ℕ, zero, suc, _+_, _-_, _≤_, _<_}
+use mathlib.Core.Path.{_≡_, refl, sym, ap, _∙_}
+use mathlib.Core.Bool.{Bool, true, false, cond}
+use mathlib.Core.List.{List, [], _∷_, _++_}
+use native.Mathlib.Nat.{le-trans}
+use native.Mathlib.Numerals.{add-one}
+use native.Mathlib.Omega.{arith}
+use borrow.Author.Tests.{eqb-true, eqb-false, le-leb}
+use lib.Dec.{eqb}
+use lib.ListN.{length, getD, set, take, drop, length-set, length-append, length-drop}
+use lib.Seq.{getD-set-same, getD-set-other, length-take-le, take-append-le, take-at, take-take}
+use Rattle.numbers.proofs.Laws.{part-length}
+use Rattle.numbers.specs.Parts.{partOf}
+use Rattle.refusal.specs.Numbers.{numberOf}
+use Rattle.refusal.specs.declared.Refusal.{Refusal}
+use Rattle.refusal.specs.declared.Refusal.the-variants.{TooManyOpenNodes}
+use Rattle.trie.specs.Call.{passed, opened, put}
+use Rattle.trie.specs.Child.{childAt}
+use Rattle.trie.specs.Frames.{most, topDown, stillOpen}
+use Rattle.trie.specs.Listing.{Visit, visit, Listing, ends, refuses, lists, _then_, child, children, subtree}
+use Rattle.trie.specs.declared.TrieWalk.{TrieWalk}
+use Rattle.trie.specs.declared.child.Child.{Child}
+use Rattle.trie.specs.declared.child.Child.the-variants.{Found, Refused}
+use Rattle.trie.specs.declared.node.Edge.{Edge}
+use Rattle.trie.specs.declared.node.Node.{Node}
+
+then-assoc : (a b c : Listing) → (a then b) then c ≡ a then (b then c)
+unfolding _then_
+then-assoc ends b c = refl
+then-assoc (refuses number) b c = refl
+then-assoc (lists v a) b c = ap (lists v) (then-assoc a b c)
+
+pub then-ends : (a : Listing) → a then ends ≡ a
+unfolding _then_
+then-ends ends = refl
+then-ends (refuses number) = refl
+then-ends (lists v a) = ap (lists v) (then-ends a)
+
+-- ---- what is put into the buffer
+
+module _ (bytes b : List ℕ) (at : ℕ) (fits : at + length bytes ≤ length b) where
+  is-put : put bytes b at ≡ take at b ++ bytes ++ drop (at + length bytes) b
+  unfolding put
+  is-put = rw (le-leb (at + length bytes) (length b) fits)
+
+  front : length (take at b ++ bytes) ≡ at + length bytes
+  front = length-append (take at b) bytes ∙ ap (λ (n : ℕ). n + length bytes) (length-take-le at b (omega arith))
+
+  pub put-length : length (put bytes b at) ≡ length b
+  put-length =
+      ap length is-put
+      ∙ length-append (take at b ++ bytes) (drop (at + length bytes) b)
+      ∙ (let e = front in let f = length-drop (at + length bytes) b in omega arith)
+
+  -- the name with the edge
+  pub put-name : take (at + length bytes) (put bytes b at) ≡ take at b ++ bytes
+  put-name = ap (take (at + length bytes)) is-put ∙ take-at (take at b ++ bytes) (drop (at + length bytes) b) (at + length bytes) front
+
+  -- and the names that it begins with
+  pub put-before : (i : ℕ) → i ≤ at → take i (put bytes b at) ≡ take i b
+  put-before i h =
+      ap (take i) is-put
+      ∙ take-append-le i (take at b ++ bytes) (drop (at + length bytes) b) (omega (arith, front))
+      ∙ take-append-le i (take at b) bytes (omega (arith, length-take-le at b (omega arith)))
+      ∙ take-take i at b h
+
+-- ---- what the open nodes hold: read places in the bytes, names that the name above begins with, the topmost in the room m
+
+abbrev pub Held : (bytes : ℕ) → TrieWalk → (m d : ℕ) → Type 0
+Held bytes w m zero = Unit {0}
+Held bytes w m (suc d) = (getD (w .places) d 0 ≤ bytes) × (getD (w .lengths) d 0 ≤ m) × Held bytes w (getD (w .lengths) d 0) d
+
+held-more : (bytes : ℕ) (w : TrieWalk) (m n d : ℕ) → m ≤ n → Held bytes w m d → Held bytes w n d
+held-more bytes w m n zero l h = tt
+held-more bytes w m n (suc d) l h = (h .0, le-trans (h .1) l, h .2)
+
+pub held-still : (bytes : ℕ) (w : TrieWalk) (m d : ℕ) → Held bytes w m d → Held bytes w m (stillOpen (w .left) d)
+unfolding stillOpen
+held-still bytes w m zero h = tt
+held-still bytes w m (suc d) h = by (eqb (getD (w .left) d 0) 0) (held-more bytes w (getD (w .lengths) d 0) m (stillOpen (w .left) d) (h .1) (held-still bytes w (getD (w .lengths) d 0) d (h .2)))
+  where
+    by : (t : Bool) → Held bytes w m (stillOpen (w .left) d) → Held bytes w m (cond t (stillOpen (w .left) d) (suc d))
+    by true k = k
+    by false k = h
+
+-- the arrays of every state that the code has
+pub record Sized (w : TrieWalk) : Type 0 where
+  pub places : length (w .places) ≡ 256
+  pub offsets : length (w .offsets) ≡ 256
+  pub left : length (w .left) ≡ 256
+  pub lengths : length (w .lengths) ≡ 256
+
+-- two walks have the same for the first d
+pub record Same (v w : TrieWalk) (d : ℕ) : Type 0 where
+  pub places : (i : ℕ) → i < d → getD (v .places) i 0 ≡ getD (w .places) i 0
+  pub offsets : (i : ℕ) → i < d → getD (v .offsets) i 0 ≡ getD (w .offsets) i 0
+  pub left : (i : ℕ) → i < d → getD (v .left) i 0 ≡ getD (w .left) i 0
+  pub lengths : (i : ℕ) → i < d → getD (v .lengths) i 0 ≡ getD (w .lengths) i 0
+
+fewer : (v w : TrieWalk) (d : ℕ) → Same v w (suc d) → Same v w d
+fewer v w d q =
+    record {
+      places = λ i l. q .places i (omega arith);
+      offsets = λ i l. q .offsets i (omega arith);
+      left = λ i l. q .left i (omega arith);
+      lengths = λ i l. q .lengths i (omega arith);
+    }
+
+top-same : (xs ys : List ℕ) (d : ℕ) → ((i : ℕ) → i < d → getD xs i 0 ≡ getD ys i 0) → topDown xs d ≡ topDown ys d
+unfolding topDown
+top-same xs ys zero q = refl
+top-same xs ys (suc d) q = λ j. q d (omega arith) j ∷ top-same xs ys d (λ i l. q i (omega arith)) j
+
+pub held-same : (bytes : ℕ) (v w : TrieWalk) (m d : ℕ) → Same v w d → Held bytes w m d → Held bytes v m d
+held-same bytes v w m zero q h = tt
+held-same bytes v w m (suc d) q h =
+    let p = q .places d (omega arith) in
+    let l = q .lengths d (omega arith) in
+    (omega (arith, p, h .0), omega (arith, l, h .1), rw l (held-same bytes v w (getD (w .lengths) d 0) d (fewer v w d q) (h .2)))
+
+-- ---- what is still to be listed
+
+module _ (s : List ℕ) (room : ℕ) where
+  -- the children that the first d open nodes have left, the topmost's first
+  unfoldable pub aheadAt : TrieWalk → (buffer : List ℕ) (d : ℕ) → Listing
+  aheadAt w b zero = ends
+  aheadAt w b (suc d) =
+      children s room (subtree s room (most - suc d)) (topDown (w .offsets) (suc d)) (take (getD (w .lengths) d 0) b) (getD (w .left) d 0) (getD (w .places) d 0)
+      then aheadAt w b d
+
+  -- nodes are closed that have no child left
+  pub ahead-still : (w : TrieWalk) (b : List ℕ) (d : ℕ) → aheadAt w b d ≡ aheadAt w b (stillOpen (w .left) d)
+  unfolding stillOpen
+  ahead-still w b zero = refl
+  ahead-still w b (suc d) = by (eqb (getD (w .left) d 0) 0) refl (ahead-still w b d)
+    where
+      by : (t : Bool) → eqb (getD (w .left) d 0) 0 ≡ t → aheadAt w b d ≡ aheadAt w b (stillOpen (w .left) d)
+          → aheadAt w b (suc d) ≡ aheadAt w b (cond t (stillOpen (w .left) d) (suc d))
+      by true e k =
+          unfold aheadAt children _then_ in
+          (ap (λ (n : ℕ). children s room (subtree s room (most - suc d)) (topDown (w .offsets) (suc d)) (take (getD (w .lengths) d 0) b) n (getD (w .places) d 0) then aheadAt w b d)
+          (eqb-true (getD (w .left) d 0) 0 e)
+          ∙ k)
+      by false e k = refl
+
+  -- the same arrays up to d, and the same names up to m bytes
+  pub ahead-same : (v w : TrieWalk) (b c : List ℕ) (bytes m d : ℕ) → Same v w d → ((i : ℕ) → i ≤ m → take i c ≡ take i b) → Held bytes w m d → aheadAt v c d ≡ aheadAt w b d
+  unfolding aheadAt
+  ahead-same v w b c bytes m zero q e h = refl
+  ahead-same v w b c bytes m (suc d) q e h =
+      let o = top-same (v .offsets) (w .offsets) (suc d) (q .offsets) in
+      let n = ap (λ (k : ℕ). take k c) (q .lengths d (omega arith)) ∙ e (getD (w .lengths) d 0) (h .1) in
+      let r = ahead-same v w b c bytes (getD (w .lengths) d 0) d (fewer v w d q) (λ i l. e i (le-trans l (h .1))) (h .2) in
+      λ j. children s room (subtree s room (most - suc d)) (o j) (n j) (q .left d (omega arith) j) (q .places d (omega arith) j) then r j
+
+  -- ---- the next child of the topmost of suc d, which has one
+
+  module _ (w : TrieWalk) (b : List ℕ) (d : ℕ) (h : Held (length s) w (length b) (suc d)) where
+    abbrev kept : ℕ
+    kept = getD (w .lengths) d 0
+
+    -- what is behind the child
+    abbrev later : ℕ → Listing
+    later next = children s room (subtree s room (most - suc d)) (topDown (w .offsets) (suc d)) (take kept b) (getD (w .left) d 0 - 1) next
+
+    child-ahead : (getD (w .left) d 0 ≡ 0 → ⊥) → {x : Child} → childAt s room (topDown (w .offsets) (suc d)) kept (getD (w .places) d 0) ≡ x
+        → aheadAt w b (suc d) ≡ child s room (subtree s room (most - suc d)) later (topDown (w .offsets) (suc d)) (take kept b) x then aheadAt w b d
+    unfolding aheadAt children
+    child-ahead z {x} e =
+        let n : getD (w .left) d 0 ≡ suc (getD (w .left) d 0 - 1) = omega arith in
+        let l : length (take kept b) ≡ kept = length-take-le kept b (h .1) in
+        ap (λ (k : ℕ). children s room (subtree s room (most - suc d)) (topDown (w .offsets) (suc d)) (take kept b) k (getD (w .places) d 0) then aheadAt w b d) n
+        ∙ ap (λ (k : ℕ). child s room (subtree s room (most - suc d)) later (topDown (w .offsets) (suc d)) (take kept b) (childAt s room (topDown (w .offsets) (suc d)) k (getD (w .places) d 0)) then aheadAt w b d) l
+        ∙ ap (λ (y : Child). child s room (subtree s room (most - suc d)) later (topDown (w .offsets) (suc d)) (take kept b) y then aheadAt w b d) e
+
+    pub refused-ahead : (getD (w .left) d 0 ≡ 0 → ⊥) → {x : Refusal} → childAt s room (topDown (w .offsets) (suc d)) kept (getD (w .places) d 0) ≡ Refused x
+        → aheadAt w b (suc d) ≡ refuses (numberOf x)
+    refused-ahead z e = child-ahead z e ∙ (unfold child _then_ in refl)
+
+    module _ (x : Edge) (n : Node) where
+      pub full-ahead : (getD (w .left) d 0 ≡ 0 → ⊥) → childAt s room (topDown (w .offsets) (suc d)) kept (getD (w .places) d 0) ≡ Found x n → most ≤ suc d
+          → aheadAt w b (suc d) ≡ refuses (numberOf TooManyOpenNodes)
+      unfolding child subtree _then_
+      full-ahead z e l =
+          let k : most - suc d ≡ 0 = omega arith in
+          child-ahead z e
+          ∙ ap (λ (k : ℕ). (subtree s room k (topDown (w .offsets) (suc d)) (take kept b ++ partOf s (x .place) (x .length)) (x .offset) n then later (x .next)) then aheadAt w b d) k
+
+      -- the child is opened, and its edge is put into the buffer
+      abbrev pub name : List ℕ
+      name = take kept b ++ partOf s (x .place) (x .length)
+
+      abbrev pub after : TrieWalk
+      after =
+          record {
+            places = set (set (w .places) d (x .next)) (suc d) (n .place);
+            offsets = set (w .offsets) (suc d) (x .offset);
+            left = set (set (w .left) d (getD (w .left) d 0 - 1)) (suc d) (n .children);
+            lengths = set (w .lengths) (suc d) (kept + x .length);
+            depth = suc d + 1;
+            begun = true;
+            ended = w .ended;
+          }
+
+      abbrev pub buffer : List ℕ
+      buffer = put (partOf s (x .place) (x .length)) b kept
+
+      module _ (sized : Sized w) (l : suc d < most) (fits : kept + x .length ≤ length b) (inside : x .place + x .length ≤ length s) where
+        untouched : (xs : List ℕ) (i u v : ℕ) → i < d → getD (set (set xs d u) (suc d) v) i 0 ≡ getD xs i 0
+        untouched xs i u v k =
+            getD-set-other (set xs d u) (suc d) i v 0 (λ z. omega arith) ∙ getD-set-other xs d i u 0 (λ z. omega arith)
+
+        below : (xs : List ℕ) (i v : ℕ) → i < suc d → getD (set xs (suc d) v) i 0 ≡ getD xs i 0
+        below xs i v k = getD-set-other xs (suc d) i v 0 (λ z. omega arith)
+
+        under : (xs : List ℕ) (u v : ℕ) → length xs ≡ 256 → getD (set (set xs d u) (suc d) v) d 0 ≡ u
+        under xs u v k = below (set xs d u) d v (omega arith) ∙ getD-set-same xs d u 0 (omega arith)
+
+        on-top : (xs : List ℕ) (v : ℕ) → length xs ≡ 256 → getD (set xs (suc d) v) (suc d) 0 ≡ v
+        on-top xs v k = getD-set-same xs (suc d) v 0 (omega arith)
+
+        same-below : Same after w d
+        same-below =
+            record {
+              places = λ i k. untouched (w .places) i (x .next) (n .place) k;
+              offsets = λ i k. below (w .offsets) i (x .offset) (omega arith);
+              left = λ i k. untouched (w .left) i (getD (w .left) d 0 - 1) (n .children) k;
+              lengths = λ i k. below (w .lengths) i (kept + x .length) (omega arith);
+            }
+
+        bytes-long : length (partOf s (x .place) (x .length)) ≡ x .length
+        bytes-long = part-length s (x .place) (x .length) inside
+
+        bytes-fit : kept + length (partOf s (x .place) (x .length)) ≤ length b
+        bytes-fit = omega (arith, bytes-long, fits)
+
+        pub name-put : take (kept + x .length) buffer ≡ name
+        name-put =
+            ap (λ (k : ℕ). take (kept + k) buffer) (sym bytes-long) ∙ put-name (partOf s (x .place) (x .length)) b kept bytes-fit
+
+        pub opened-ahead : (getD (w .left) d 0 ≡ 0 → ⊥) → childAt s room (topDown (w .offsets) (suc d)) kept (getD (w .places) d 0) ≡ Found x n
+            → aheadAt w b (suc d) ≡ lists (visit name (x .offset) (n .terminal)) (aheadAt after buffer (suc (suc d)))
+        unfolding child subtree _then_ aheadAt topDown
+        opened-ahead z e =
+            let k : most - suc d ≡ suc (most - suc (suc d)) = omega arith in
+            let v = visit name (x .offset) (n .terminal) in
+            let below-it = children s room (subtree s room (most - suc (suc d))) (x .offset ∷ topDown (w .offsets) (suc d)) name (n .children) (n .place) in
+            let t : topDown (w .offsets) (suc d) ≡ topDown (after .offsets) (suc d) = sym (top-same (after .offsets) (w .offsets) (suc d) (λ i m. below (w .offsets) i (x .offset) m)) in
+            let f : getD (after .offsets) (suc d) 0 ≡ x .offset = on-top (w .offsets) (x .offset) (sized .offsets) in
+            let m : name ≡ take (getD (after .lengths) (suc d) 0) buffer = sym name-put ∙ ap (λ (k : ℕ). take k buffer) (sym (on-top (w .lengths) (kept + x .length) (sized .lengths))) in
+            let c : getD (after .left) (suc d) 0 ≡ n .children = on-top (set (w .left) d (getD (w .left) d 0 - 1)) (n .children) (length-set (w .left) d (getD (w .left) d 0 - 1) ∙ sized .left) in
+            let p : getD (after .places) (suc d) 0 ≡ n .place = on-top (set (w .places) d (x .next)) (n .place) (length-set (w .places) d (x .next) ∙ sized .places) in
+            let m₂ : take kept b ≡ take (getD (after .lengths) d 0) buffer =
+            sym (put-before (partOf s (x .place) (x .length)) b kept bytes-fit kept (omega arith)) ∙ ap (λ (k : ℕ). take k buffer) (sym (below (w .lengths) d (kept + x .length) (omega arith))) in
+            let c₂ = under (w .left) (getD (w .left) d 0 - 1) (n .children) (sized .left) in
+            let p₂ = under (w .places) (x .next) (n .place) (sized .places) in
+            let r = ahead-same after w b buffer (length s) kept d same-below (λ i m. put-before (partOf s (x .place) (x .length)) b kept bytes-fit i m) (h .2) in
+            child-ahead z e
+            ∙ ap (λ (k : ℕ). (subtree s room k (topDown (w .offsets) (suc d)) name (x .offset) n then later (x .next)) then aheadAt w b d) k
+            ∙ ap (lists v) (then-assoc below-it (later (x .next)) (aheadAt w b d))
+            ∙ (λ j. lists v
+            (children s room (subtree s room (most - suc (suc d))) (sym f j ∷ t j) (m j) (sym c j) (sym p j)
+            then (children s room (subtree s room (most - suc d)) (t j) (m₂ j) (sym c₂ j) (sym p₂ j) then sym r j)))
+
+        pub sized-after : Sized after
+        sized-after =
+            record {
+              places = length-set (set (w .places) d (x .next)) (suc d) (n .place) ∙ length-set (w .places) d (x .next) ∙ sized .places;
+              offsets = length-set (w .offsets) (suc d) (x .offset) ∙ sized .offsets;
+              left = length-set (set (w .left) d (getD (w .left) d 0 - 1)) (suc d) (n .children) ∙ length-set (w .left) d (getD (w .left) d 0 - 1) ∙ sized .left;
+              lengths = length-set (w .lengths) (suc d) (kept + x .length) ∙ sized .lengths;
+            }
+
+        pub length-after : length buffer ≡ length b
+        length-after = put-length (partOf s (x .place) (x .length)) b kept bytes-fit
+
+        pub held-after : x .next ≤ length s → n .place ≤ length s → Held (length s) after (length buffer) (suc (suc d))
+        held-after i j =
+            let p = on-top (set (w .places) d (x .next)) (n .place) (length-set (w .places) d (x .next) ∙ sized .places) in
+            let m = on-top (w .lengths) (kept + x .length) (sized .lengths) in
+            let p₂ = under (w .places) (x .next) (n .place) (sized .places) in
+            let m₂ = below (w .lengths) d (kept + x .length) (omega arith) in
+            (omega (arith, p), omega (arith, m, length-after, fits), (omega (arith, p₂), omega (arith, m, m₂), rw m₂ (held-same (length s) after w kept d same-below (h .2))))

@@ -1,0 +1,71 @@
+-- Calls with any limits, one after another: what they say together; and what a listing says to one who makes them.
+use Prim.Native.Nat.{ℕ, _+_}
+use mathlib.Core.List.{List, [], _∷_}
+use mathlib.Core.Option.{Option, none, some}
+use lib.ListN.{take}
+use Rattle.trie.specs.Call.{Answer, export, more, end, refused, call}
+use Rattle.trie.specs.Listing.{Visit, Listing, ends, refuses, lists}
+use Rattle.trie.specs.declared.TrieWalk.{TrieWalk}
+use Rattle.trie.specs.declared.export.Export.{Export}
+use Rattle.trie.specs.declared.node.Terminal.{Terminal}
+use Rattle.trie.specs.declared.node.Terminal.the-variants as terminal
+
+-- an export with its name
+pub record Symbol : Type 0 where
+  pub name : List ℕ
+  pub export : Export
+
+abbrev pub symbol : List ℕ → Export → Symbol
+symbol name x = record { name = name; export = x }
+
+pub data Ending : Type 0 where
+  atEnd : Ending
+  atRefusal : (number : ℕ) → Ending
+
+-- the exports, the sum of the visits, and how it ended, if it has
+pub record Joined : Type 0 where
+  pub exports : List Symbol
+  pub visits : ℕ
+  pub ending : Option Ending
+
+abbrev pub joined : List Symbol → ℕ → Option Ending → Joined
+joined exports visits ending = record { exports = exports; visits = visits; ending = ending }
+
+-- a call that made n visits and left this buffer, and then the rest
+abbrev pub join : (n : ℕ) (buffer : List ℕ) → (rest : Joined) → Answer → Joined
+join n b rest (export length x) = joined (symbol (take length b) x ∷ rest .exports) (n + rest .visits) (rest .ending)
+join n b rest more = joined (rest .exports) (n + rest .visits) (rest .ending)
+join n b rest end = joined [] n (some atEnd)
+join n b rest (refused number) = joined [] n (some (atRefusal number))
+
+-- calls to the first end or refusal; each is given the state and the buffer as the last one left them
+unfoldable pub calls : List ℕ → TrieWalk → (buffer limits : List ℕ) → Joined
+calls s w b [] = joined [] 0 none
+calls s w b (k ∷ ks) =
+    let p = call s k w b in
+    let rest = calls s (p .0 .walk) (p .1) ks in
+    join (p .0 .visits) (p .1) rest (p .0 .answer)
+
+-- ---- what a listing says
+
+abbrev pub exported : List ℕ → Terminal → List Symbol → List Symbol
+exported name terminal.Inner symbols = symbols
+exported name (terminal.Export x) symbols = symbol name x ∷ symbols
+
+unfoldable pub exportsIn : Listing → List Symbol
+exportsIn ends = []
+exportsIn (refuses number) = []
+exportsIn (lists v l) = exported (v .name) (v .terminal) (exportsIn l)
+
+unfoldable pub visitsIn : Listing → ℕ
+visitsIn ends = 0
+visitsIn (refuses number) = 0
+visitsIn (lists v l) = 1 + visitsIn l
+
+unfoldable pub endingOf : Listing → Ending
+endingOf ends = atEnd
+endingOf (refuses number) = atRefusal number
+endingOf (lists v l) = endingOf l
+
+abbrev pub heard : Listing → Joined
+heard l = joined (exportsIn l) (visitsIn l) (some (endingOf l))
