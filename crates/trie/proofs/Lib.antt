@@ -8,3 +8,5 @@ pub mod Calls
 pub mod Ahead
 pub mod Tells
 pub mod Joined
+pub mod Stops
+pub mod Unique

@@ -167,7 +167,7 @@ module _ (s : List ℕ) (room : ℕ) where
         record {
           seen = visit (take len b) offset (terminal.Export x) ∷ [];
           listed = ap (lists (visit (take len b) offset (terminal.Export x)))
-          (ap (λ (c : Bool). cond c (aheadAt s room w b (w .depth)) (listing s room most)) (sym y));
+              (ap (λ (c : Bool). cond c (aheadAt s room w b (w .depth)) (listing s room most)) (sym y));
           count = omega arith;
           exports = refl;
           marked-as = z;
@@ -221,7 +221,7 @@ module _ (s : List ℕ) (room : ℕ) where
               sized = sized-after s room u b d held e n (g .sized) above fits (within .inside);
               fits = omega arith;
               held = subst (Held (length s) v (length c)) p
-              (held-after s room u b d held e n (g .sized) above fits (within .inside) (within .next) (node-in s (e .offset) (read .node)));
+                  (held-after s room u b d held e n (g .sized) above fits (within .inside) (within .next) (node-in s (e .offset) (read .node)));
             }
 
         -- the definition's state and buffer
@@ -287,7 +287,7 @@ module _ (s : List ℕ) (room : ℕ) where
             sized = record { places = g .sized .places; offsets = g .sized .offsets; left = g .sized .left; lengths = g .sized .lengths };
             fits = omega (arith, closed-open, open-nodes, g .fits, still-at-most (w .left) (w .depth));
             held = subst (Held (length s) (closed w) (length b)) (sym closed-open)
-            (held-same (length s) (closed w) w (length b) (stillOpen (w .left) (w .depth)) (arrays (stillOpen (w .left) (w .depth))) held-closed);
+                (held-same (length s) (closed w) w (length b) (stillOpen (w .left) (w .depth)) (arrays (stillOpen (w .left) (w .depth))) held-closed);
           }
 
       closed-ahead : aheadAt s room w b (w .depth) ≡ aheadAt s room (closed w) b (stillOpen (w .left) (w .depth))
