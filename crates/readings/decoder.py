@@ -303,6 +303,148 @@ def preflight(kind, size, data, sizes):
     return said + "; fault {} at {} place {}".format(*verdict)
 
 
+# ---- tries
+
+
+class Trie:
+    """A walk over a trie. What is open is a list of nodes; `seen` has what the arrays keep of nodes that are not."""
+
+    def __init__(self, room):
+        self.open, self.seen, self.begun, self.ended = [], [[0, 0, 0, 0] for _ in range(256)], False, False
+        self.claimed = None  # how many nodes a made-up state says are open
+        self.name = bytearray(b"." * room)
+
+    def export(self, data, at, end):
+        data = data[:end]
+
+        def read():
+            nonlocal at
+            answer = leb(data, at, False)
+            if not answer:
+                raise Refused(15)
+            at = answer[1]
+            return answer[0]
+
+        flags = read()
+        if flags & ~0x3F:
+            raise Refused(15)
+        if flags & 0x08:
+            ordinal, nul = read(), data.find(b"\0", at)
+            if nul < at:
+                raise Refused(15)
+            return f" flags {flags} library {ordinal} at {at} {nul - at} import{shown(data[at:nul])}"
+        if flags & 0x10:
+            return f" flags {flags} stub {read()} resolver {read()}"
+        return f" flags {flags} address {read()}"
+
+    def node(self, data, offset):
+        """What the node exports, or None; the place of its edges, and how many there are."""
+        answer = leb(data, offset, False)
+        if not answer:
+            raise Refused(15)
+        size, at = answer
+        if at + size > len(data):
+            raise Refused(15)
+        export = self.export(data, at, at + size) if size else None
+        if at + size == len(data):
+            raise Refused(15)
+        return export, at + size + 1, data[at + size]
+
+    def child(self, data):
+        """The next child of the node on top: what it exports."""
+        place, _, _, length = self.open[-1]
+        nul = data.find(b"\0", place)
+        answer = leb(data, nul + 1, False) if nul >= place else None
+        if not answer:
+            raise Refused(15)
+        offset, behind = answer
+        edge = data[place:nul]
+        if length + len(edge) > len(self.name):
+            raise Refused(18)
+        if offset in (node[1] for node in self.open):
+            raise Refused(16)
+        export, first, children = self.node(data, offset)
+        if len(self.open) == 256:
+            raise Refused(17)
+        self.name[length : length + len(edge)] = edge
+        self.open[-1][0] = behind
+        self.open[-1][2] -= 1
+        self.enter([first, offset, children, length + len(edge)])
+        return export
+
+    def enter(self, node):
+        self.open.append(node)
+        self.seen[len(self.open) - 1] = node
+
+    def unfit(self, data):
+        count = len(self.open) if self.claimed is None else self.claimed
+        return self.begun and (
+            count > 256 or any(n[0] > len(data) or n[3] > len(self.name) for n in self.seen[:count])
+        )
+
+    def call(self, data, limit):
+        if self.unfit(data):
+            return "refused 19", 0
+        if self.ended:
+            return "end", 0
+        if limit == 0:
+            return "more", 0
+        if self.claimed is not None:
+            self.open = self.seen[: self.claimed] if self.begun else []
+        given = [list(n) for n in self.seen], len(self.open), self.begun, self.claimed
+        visits, self.claimed = 0, None
+        try:
+            while True:
+                while self.open and self.open[-1][2] == 0:
+                    self.open.pop()
+                if self.begun and not self.open:
+                    self.ended = True
+                    return "end", visits
+                if visits == limit:
+                    return "more", visits
+                if self.begun:
+                    export = self.child(data)
+                else:
+                    export, first, children = self.node(data, 0)
+                    self.begun = True
+                    self.enter([first, 0, children, 0])
+                visits += 1
+                if export:
+                    return f"export {self.open[-1][3]}{export}", visits
+        except Refused as e:
+            self.seen, count, self.begun, self.claimed = given
+            self.open, self.ended = self.seen[:count], True
+            return f"refused {e}", visits
+
+    def line(self, data, limit, name=True):
+        answer, visits = self.call(data, limit)
+        count = len(self.open) if self.claimed is None else self.claimed
+        flags = "".join(f" {what} {'yes' if is_so else 'no'}" for what, is_so in (("begun", self.begun), ("ended", self.ended)))
+        nodes = "".join("; {} {} {} {}".format(*n) for n in self.seen[:3])
+        return f"\n  {answer}; visits {visits}; open {count}{flags}{nodes}; name{shown(self.name) if name else ''}"
+
+
+def listed(data, room, limit):
+    walk = Trie(room)
+    said, calls = f"trie room {room} limit {limit}:{shown(data)}", 0
+    while calls < 9 and not walk.ended:
+        said, calls = said + walk.line(data, limit), calls + 1
+    return said + walk.line(data, 0)
+
+
+def row(children):
+    data = b"".join(bytes([0, 1, 0, n % 128 + 128, n // 128]) for n in range(5, 5 * children + 1, 5)).ljust(1282, b"\0")
+    return f"trie row {children}" + Trie(1).line(data, 1000, name=False)
+
+
+def made(depth, place, length, begun, ended):
+    walk = Trie(4)
+    walk.claimed, walk.begun, walk.ended = depth, begun, ended
+    walk.seen[0] = [place, 77, 1, length]
+    said = f"trie state {depth} {place} {length} begun {'yes' if begun else 'no'} ended {'yes' if ended else 'no'}"
+    return said + walk.line(b"\x00\x01a\x00\x05", 2)
+
+
 # ---- the samples
 
 
@@ -321,3 +463,9 @@ for kind, size, text, sizes in samples(
 ):
     value, _, times = sizes.partition(";")
     print(preflight(kind, int(size), eval(text), eval(f"[{value}]") * int(times or 1)))
+for text, room, limit in samples("exporting.rt", r'^    list\(\s*(b"[^"]*"),\s*&mut \[46; ([0-9]+)\],\s*([0-9]+),?\s*\);$'):
+    print(listed(eval(text), int(room), int(limit)))
+for children in samples("exporting.rt", r"^    row\(([0-9]+)\);$"):
+    print(row(int(children)))
+for numbers, flags in samples("exporting.rt", r"^    made\(([0-9]+, [0-9]+, [0-9]+), ((?:true|false), (?:true|false))\);$"):
+    print(made(*eval(numbers), *(word == "true" for word in flags.split(", "))))

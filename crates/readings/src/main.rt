@@ -1,4 +1,6 @@
-// Reads sample bytes in every way, walks sample streams, and judges them before they are walked.
+// Reads sample bytes in every way, walks sample streams, judges them before they are walked, and lists
+// sample tries.
+mod exporting;
 mod flying;
 mod print;
 mod reading;
@@ -8,4 +10,5 @@ fn main() {
     reading::samples();
     walking::samples();
     flying::samples();
+    exporting::samples();
 }

@@ -56,3 +56,12 @@ fn byte(b: u8) {
     say(b" ");
     io::print_hex(STDOUT_FILENO, b as u64, 2);
 }
+
+pub(crate) fn flag(what: &[u8], is: bool) {
+    say(what);
+    if is {
+        say(b" yes");
+    } else {
+        say(b" no");
+    }
+}

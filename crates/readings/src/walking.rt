@@ -2,6 +2,7 @@
 // call of a walk is lent no bytes.
 use crate::print::bytes;
 use crate::print::decimal;
+use crate::print::flag;
 use crate::print::say;
 use crate::print::signed;
 use bind::BindStart;
@@ -248,13 +249,4 @@ fn state(c: Cursor) {
 
 fn library(what: &[u8], number: i32) {
     signed(what, number as i64);
-}
-
-fn flag(what: &[u8], is: bool) {
-    say(what);
-    if is {
-        say(b" yes");
-    } else {
-        say(b" no");
-    }
 }
