@@ -59,6 +59,11 @@ fn rooms() {
 // Few nodes at a time: through inner nodes, and where nothing is left to read.
 fn limits() {
     list(
+        b"\x00\x01a\x00\x05\x00\x01b\x00\x0a\x00\x01c\x00\x0f\x00\x01d\x00\x14\x00\x01e\x00\x19\x02\x00\x07\x00",
+        &mut [46; 6],
+        2,
+    );
+    list(
         b"\x00\x01a\x00\x05\x00\x01b\x00\x0a\x02\x00\x07\x00",
         &mut [46; 4],
         1,

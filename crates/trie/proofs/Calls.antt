@@ -43,7 +43,7 @@ module _ (s : List ℕ) (given : TrieWalk) (k : ℕ) (b : List ℕ) {x : NodeRea
     unfolding visited
     root-exports y p = (λ i. (told (p i), b)) ∙ ap (visited (onward s given k) 0 1 w b) (sym y) ∙ at-root
 
-    pub root-on : n .terminal ≡ terminal.Inner → {p : Reply × List ℕ} → p ≡ onward s given k 1 w b → p ≡ visitRoot s given k b (nodeAt s 0)
+    pub root-on : n .terminal ≡ terminal.NoExport → {p : Reply × List ℕ} → p ≡ onward s given k 1 w b → p ≡ visitRoot s given k b (nodeAt s 0)
     unfolding visited
     root-on y p = p ∙ ap (visited (onward s given k) 0 1 w b) (sym y) ∙ at-root
 

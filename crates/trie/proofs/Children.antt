@@ -70,8 +70,8 @@ module _ (s : List ℕ) where
       by-number (ulebAt s offset) _ _ (IfNode s) tt
       (λ size at f. none at (eqb size 0) _ (area at size (leb (at + size) (length s))))
     where
-      none : (at : ℕ) (b : Bool) (x : NodeRead) → IfNode s x → IfNode s (cond b (countedAt s terminal.Inner at) x)
-      none at true x h = counted-by terminal.Inner at
+      none : (at : ℕ) (b : Bool) (x : NodeRead) → IfNode s x → IfNode s (cond b (countedAt s terminal.NoExport at) x)
+      none at true x h = counted-by terminal.NoExport at
       none at false x h = h
 
       exports : (at size : ℕ) (x : ExportRead) → IfNode s (thenExport x node.Fault (λ x. countedAt s (terminal.Export x) (at + size)))

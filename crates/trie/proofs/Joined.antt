@@ -9,7 +9,7 @@ use lib.ListN.{length}
 use Rattle.trie.proofs.Tells.{Good, _before_, symbolsOf, symbolIn, stops, leaves, ahead, Tells, call-tells}
 use Rattle.trie.specs.Call.{atStart, Answer, export, more, end, refused, call}
 use Rattle.trie.specs.Frames.{most}
-use Rattle.trie.specs.Joined.{Symbol, symbol, Ending, atEnd, atRefusal, Joined, joined, join, calls, exported, exportsIn, visitsIn, endingOf, heard}
+use Rattle.trie.specs.Joined.{Symbol, symbol, Ending, atEnd, atRefusal, Joined, joined, join, calls, withSymbol, exportsIn, visitsIn, endingOf, heard}
 use Rattle.trie.specs.Listing.{Visit, Listing, ends, refuses, lists, listing}
 use Rattle.trie.specs.declared.TrieWalk.{TrieWalk}
 use Rattle.trie.specs.declared.node.Terminal.{Terminal}
@@ -17,15 +17,15 @@ use Rattle.trie.specs.declared.node.Terminal.the-variants as terminal
 
 -- ---- what visits in front of a listing come to
 
-exported-append : (name : List ℕ) (t : Terminal) (xs ys : List Symbol) → exported name t (xs ++ ys) ≡ exported name t xs ++ ys
-exported-append name terminal.Inner xs ys = refl
-exported-append name (terminal.Export x) xs ys = refl
+with-append : (name : List ℕ) (t : Terminal) (xs ys : List Symbol) → withSymbol name t (xs ++ ys) ≡ withSymbol name t xs ++ ys
+with-append name terminal.NoExport xs ys = refl
+with-append name (terminal.Export x) xs ys = refl
 
 exports-before : (vs : List Visit) (l : Listing) → exportsIn (vs before l) ≡ symbolsOf vs ++ exportsIn l
 unfolding exportsIn _before_
 exports-before [] l = refl
 exports-before (v ∷ vs) l =
-    ap (exported (v .name) (v .terminal)) (exports-before vs l) ∙ exported-append (v .name) (v .terminal) (symbolsOf vs) (exportsIn l)
+    ap (withSymbol (v .name) (v .terminal)) (exports-before vs l) ∙ with-append (v .name) (v .terminal) (symbolsOf vs) (exportsIn l)
 
 visits-before : (vs : List Visit) (l : Listing) → visitsIn (vs before l) ≡ length vs + visitsIn l
 unfolding visitsIn _before_
@@ -73,13 +73,13 @@ module _ (s : List ℕ) (room : ℕ) where
   -- and the calls after it the rest
   join-covers : {k : ℕ} {l : Listing} (a : Answer) (w : TrieWalk) (n : ℕ) (b : List ℕ) (j : Joined) → Tells s room k 0 l (record { answer = a; walk = w; visits = n }, b)
       → (stops a ≡ false → Covers (ahead s room w b) j) → Covers l (join n b j a)
-  join-covers (export length x) w n b j t ih =
+  join-covers (export len x) w n b j t ih =
       let c = ih refl in
       record {
         rest = c .rest;
-        exports = exports-split (export length x) w n b t ∙ ap (λ (y : List Symbol). symbolIn b (export length x) ++ y) (c .exports);
-        visits = let e = visits-split (export length x) w n b t in omega (arith, e, c .visits);
-        ending = ending-split (export length x) w n b t ∙ c .ending;
+        exports = exports-split (export len x) w n b t ∙ ap (λ (y : List Symbol). symbolIn b (export len x) ++ y) (c .exports);
+        visits = let e = visits-split (export len x) w n b t in omega (arith, e, c .visits);
+        ending = ending-split (export len x) w n b t ∙ c .ending;
         over = c .over;
       }
   join-covers more w n b j t ih =
@@ -114,13 +114,13 @@ module _ (s : List ℕ) (room : ℕ) where
   -- ---- the end
 
   join-ends : (a : Answer) (n : ℕ) (b : List ℕ) (j : Joined) → (stops a ≡ false → (e : Ending) × (j .ending ≡ some e)) → (e : Ending) × (join n b j a .ending ≡ some e)
-  join-ends (export length x) n b j h = h refl
+  join-ends (export len x) n b j h = h refl
   join-ends more n b j h = h refl
   join-ends end n b j h = (atEnd, refl)
   join-ends (refused number) n b j h = (atRefusal number, refl)
 
   goes-on : (a : Answer) (l : Listing) → stops a ≡ false → leaves l a ≡ l
-  goes-on (export length x) l q = refl
+  goes-on (export len x) l q = refl
   goes-on more l q = refl
   goes-on end l q = absurd (true≢false q)
   goes-on (refused number) l q = absurd (true≢false q)

@@ -53,7 +53,7 @@ module _ (s : List ℕ) (room : ℕ) (given : TrieWalk) where
   visited-leaves : (on : ℕ → TrieWalk → List ℕ → Reply × List ℕ) → ((n : ℕ) (w : TrieWalk) (b : List ℕ) → Leaves (on n w b)) → (len n : ℕ) (w : TrieWalk) (b : List ℕ) (t : Terminal)
       → Leaves (visited on len n w b t)
   unfolding visited
-  visited-leaves on ih len n w b terminal.Inner = ih n w b
+  visited-leaves on ih len n w b terminal.NoExport = ih n w b
   visited-leaves on ih len n w b (terminal.Export x) = tt
 
   either : (t : Bool) (p q : Reply × List ℕ) → Leaves p → Leaves q → Leaves (cond t p q)

@@ -20,7 +20,7 @@ use Rattle.trie.specs.Call.{atStart, marked, closed, onTop, passed, open
 use Rattle.trie.specs.Child.{thenNode, childAt}
 use Rattle.trie.specs.ExportsTrie.{nodeAt}
 use Rattle.trie.specs.Frames.{most, openNodes, topDown, any, oneAbove, outOfRange, stillOpen}
-use Rattle.trie.specs.Joined.{Symbol, symbol, exported}
+use Rattle.trie.specs.Joined.{Symbol, symbol, withSymbol}
 use Rattle.trie.specs.Listing.{Visit, visit, Listing, ends, refuses, lists, _then_, children, subtree, listing}
 use Rattle.trie.specs.declared.TrieWalk.{TrieWalk}
 use Rattle.trie.specs.declared.child.Child.{Child}
@@ -50,24 +50,24 @@ unfoldable pub _before_ : List Visit → Listing → Listing
 -- the exports among visits
 abbrev pub symbolsOf : List Visit → List Symbol
 symbolsOf [] = []
-symbolsOf (v ∷ vs) = exported (v .name) (v .terminal) (symbolsOf vs)
+symbolsOf (v ∷ vs) = withSymbol (v .name) (v .terminal) (symbolsOf vs)
 
 -- the export that is answered
 abbrev pub symbolIn : List ℕ → Answer → List Symbol
-symbolIn b (export length x) = symbol (take length b) x ∷ []
+symbolIn b (export len x) = symbol (take len b) x ∷ []
 symbolIn b more = []
 symbolIn b end = []
 symbolIn b (refused number) = []
 
 abbrev pub stops : Answer → Bool
-stops (export length x) = false
+stops (export len x) = false
 stops more = false
 stops end = true
 stops (refused number) = true
 
 -- what is left to be listed after an answer, where l is what the walk handed back has ahead
 abbrev pub leaves : Listing → Answer → Listing
-leaves l (export length x) = l
+leaves l (export len x) = l
 leaves l more = l
 leaves l end = ends
 leaves l (refused number) = refuses number
@@ -151,11 +151,11 @@ module _ (s : List ℕ) (room : ℕ) where
     visit-tells : {k n : ℕ} (len offset : ℕ) (w : TrieWalk) (b : List ℕ) → length b ≡ room → Good s b w → w .begun ≡ true → w .ended ≡ false → (t : Terminal)
         → Tells k n (lists (visit (take len b) offset t) (aheadAt s room w b (w .depth))) (visited on len (n + 1) w b t)
     unfolding visited _before_
-    visit-tells {n = n} len offset w b r g y z terminal.Inner =
+    visit-tells {n = n} len offset w b r g y z terminal.NoExport =
         let t = tells (n + 1) w b r g y z in
         record {
-          seen = visit (take len b) offset terminal.Inner ∷ t .seen;
-          listed = ap (lists (visit (take len b) offset terminal.Inner)) (t .listed);
+          seen = visit (take len b) offset terminal.NoExport ∷ t .seen;
+          listed = ap (lists (visit (take len b) offset terminal.NoExport)) (t .listed);
           count = omega (arith, t .count);
           exports = t .exports;
           marked-as = t .marked-as;

@@ -158,7 +158,7 @@ module _ {s : List ℕ} {given : TrieWalk} {limit done : ℕ} {w₀ : TrieWalk} 
             unfolding visited
             exports y p = sym (reached ∙ ap (visited (onward s given (limit - (visits + 1))) (childName d w x) (visits + 1) (childOpened d w x n) c₀) y ∙ (λ i. (told (sym p i), c₀)))
 
-            pub goes-on : length c₀ ≡ length b → n .terminal ≡ terminal.Inner → Going s given limit done w₀ b₀ (childOpened d w x n) c₀ (visits + 1)
+            pub goes-on : length c₀ ≡ length b → n .terminal ≡ terminal.NoExport → Going s given limit done w₀ b₀ (childOpened d w x n) c₀ (visits + 1)
             unfolding visited
             goes-on m y =
                 record {

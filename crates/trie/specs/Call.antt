@@ -1,5 +1,5 @@
 -- One call of the walk: what it answers, the state that it hands back, how many nodes it visited, and what it leaves in the name buffer;
--- for any state. The open nodes are the first `depth` elements of the state's arrays, the one on top the last of them.
+-- for any state. Once the walk has begun, the first `depth` elements of the state's arrays are those of the open nodes, the one on top last.
 use Prim.Native.Nat.{ℕ, zero, suc, _+_, _-_}
 use mathlib.Core.Bool.{true, false, cond}
 use mathlib.Core.List.{List, [], _∷_, _++_}
@@ -10,12 +10,12 @@ use Rattle.refusal.specs.Numbers.{numberOf}
 use Rattle.refusal.specs.declared.Refusal.{Refusal}
 use Rattle.refusal.specs.declared.Refusal.the-variants.{FaultyNode, TooManyOpenNodes, StateOutOfRange}
 use Rattle.trie.specs.Child.{childAt}
+use Rattle.trie.specs.Exported.{Exported, exportTold}
 use Rattle.trie.specs.ExportsTrie.{nodeAt}
 use Rattle.trie.specs.Frames.{most, openNodes, topDown, outOfRange, stillOpen}
 use Rattle.trie.specs.declared.TrieWalk.{TrieWalk}
 use Rattle.trie.specs.declared.child.Child.{Child}
 use Rattle.trie.specs.declared.child.Child.the-variants.{Found, Refused}
-use Rattle.trie.specs.declared.export.Export.{Export}
 use Rattle.trie.specs.declared.node.NodeRead.{NodeRead}
 use Rattle.trie.specs.declared.node.NodeRead.the-variants as node
 use Rattle.trie.specs.declared.node.Terminal.{Terminal}
@@ -50,7 +50,7 @@ marked w =
       ended = true;
     }
 
--- what has no child left is closed
+-- the nodes on top that have no child left to read are closed, down to the first that has one
 abbrev pub closed : TrieWalk → TrieWalk
 closed w =
     record {
@@ -81,19 +81,19 @@ passed next w =
     }
 
 -- a node is opened above d others
-abbrev pub opened : (d place offset children length : ℕ) → TrieWalk → TrieWalk
-opened d place offset children length w =
+abbrev pub opened : (d place offset children len : ℕ) → TrieWalk → TrieWalk
+opened d place offset children len w =
     record {
       places = set (w .places) d place;
       offsets = set (w .offsets) d offset;
       left = set (w .left) d children;
-      lengths = set (w .lengths) d length;
+      lengths = set (w .lengths) d len;
       depth = d + 1;
       begun = true;
       ended = w .ended;
     }
 
--- bytes are put into the buffer at a place; none where they do not fit
+-- bytes are put into the buffer at a place; none where they do not fit (an edge does: 18 is tested before)
 unfoldable pub put : (bytes buffer : List ℕ) (at : ℕ) → List ℕ
 put bytes buffer at =
     cond (leb (at + length bytes) (length buffer))
@@ -103,7 +103,7 @@ put bytes buffer at =
 -- ---- a call
 
 pub data Answer : Type 0 where
-  export : (length : ℕ) → Export → Answer  -- its name is the first `length` bytes of the buffer
+  export : (len : ℕ) → Exported → Answer  -- its name is the first `len` bytes of the buffer
   more : Answer
   end : Answer
   refused : (number : ℕ) → Answer
@@ -117,32 +117,32 @@ pub record Reply : Type 0 where
 abbrev pub replied : Answer → TrieWalk → (visits : ℕ) (buffer : List ℕ) → Reply × List ℕ
 replied answer w n b = (record { answer = answer; walk = w; visits = n }, b)
 
--- a refusal hands back the state as it was given
+-- any refusal but 19 hands back the state as it was given, marked as ended; visits and buffer are those before it
 abbrev pub refusing : Refusal → (given : TrieWalk) (visits : ℕ) (buffer : List ℕ) → Reply × List ℕ
 refusing e given n b = replied (refused (numberOf e)) (marked given) n b
 
--- a node is visited, whose name has this length: an export is answered, from any other node the call goes on
-unfoldable pub visited : (on : (n : ℕ) → TrieWalk → List ℕ → Reply × List ℕ) (length n : ℕ) → TrieWalk → List ℕ → Terminal → Reply × List ℕ
-visited on length n w b terminal.Inner = on n w b
-visited on length n w b (terminal.Export x) = replied (export length x) w n b
+-- a node is visited, the nth, whose name has this length: an export is answered, from any other node the call goes on
+unfoldable pub visited : (on : (n : ℕ) → TrieWalk → List ℕ → Reply × List ℕ) (len n : ℕ) → TrieWalk → List ℕ → Terminal → Reply × List ℕ
+visited on len n w b terminal.NoExport = on n w b
+visited on len n w b (terminal.Export x) = replied (export len (exportTold x)) w n b
 
--- the next child of the node on top
-unfoldable pub visitChild : List ℕ → (on : (n : ℕ) → TrieWalk → List ℕ → Reply × List ℕ) (given : TrieWalk) (n : ℕ) → TrieWalk → List ℕ → Child → Reply × List ℕ
-visitChild s on given n w b (Refused e) = refusing e given n b
-visitChild s on given n w b (Found e node) =
-    let length = onTop w (w .lengths) + e .length in
-    cond (leb most (w .depth)) (refusing TooManyOpenNodes given n b)
-    (visited on length (n + 1)
-    (opened (w .depth) (node .place) (e .offset) (node .children) length (passed (e .next) w))
-    (put (partOf s (e .place) (e .length)) b (onTop w (w .lengths)))
-    (node .terminal))
-
--- what is read of it
+-- what is read of the next child of the node on top
 abbrev pub childOf : List ℕ → (room : ℕ) → TrieWalk → Child
 childOf s room w =
     childAt s room (topDown (w .offsets) (w .depth)) (onTop w (w .lengths)) (onTop w (w .places))
 
--- n nodes are visited, and k more may be. What has no child left is closed first
+-- it is visited, where it may be opened; n nodes were visited before
+unfoldable pub visitChild : List ℕ → (on : (n : ℕ) → TrieWalk → List ℕ → Reply × List ℕ) (given : TrieWalk) (n : ℕ) → TrieWalk → List ℕ → Child → Reply × List ℕ
+visitChild s on given n w b (Refused e) = refusing e given n b
+visitChild s on given n w b (Found e node) =
+    let len = onTop w (w .lengths) + e .length in
+    cond (leb most (w .depth)) (refusing TooManyOpenNodes given n b)
+    (visited on len (n + 1)
+    (opened (w .depth) (node .place) (e .offset) (node .children) len (passed (e .next) w))
+    (put (partOf s (e .place) (e .length)) b (onTop w (w .lengths)))
+    (node .terminal))
+
+-- n nodes are visited, and k more may be. Finished nodes are closed before the limit is tested
 unfoldable pub onward : List ℕ → (given : TrieWalk) (k n : ℕ) → TrieWalk → List ℕ → Reply × List ℕ
 onward s given zero n w b =
     cond (eqb (closed w .depth) 0) (replied end (marked (closed w)) n b)
@@ -157,11 +157,12 @@ visitRoot s given k b node.Fault = refusing FaultyNode given 0 b
 visitRoot s given k b (node.Found n) =
     visited (onward s given k) 0 1 (opened 0 (n .place) 0 (n .children) 0 given) b (n .terminal)
 
--- where the state is in range and the walk has not ended
+-- of a walk that has not ended: limit 0 says More and changes nothing
 unfoldable pub goOn : List ℕ → (limit : ℕ) → TrieWalk → List ℕ → Reply × List ℕ
 goOn s zero w b = replied more w 0 b
 goOn s (suc k) w b = cond (w .begun) (onward s w (suc k) 0 w b) (visitRoot s w k b (nodeAt s 0))
 
+-- 19 is tested first and returns the state as it came; then a walk that has ended says End, at any limit
 unfoldable pub call : List ℕ → (limit : ℕ) → TrieWalk → (buffer : List ℕ) → Reply × List ℕ
 call s limit w b =
     cond (outOfRange (w .places) (w .lengths) (openNodes (w .begun) (w .depth)) (length s) (length b))

@@ -1,4 +1,4 @@
--- The next child of an open node: what is read of it, and what refuses it.
+-- The next child of an open node: what is read of it, and what refuses it but for the number of open nodes.
 use Prim.Native.Nat.{ℕ, _+_}
 use mathlib.Core.Bool.{cond}
 use mathlib.Core.List.{List}
@@ -24,11 +24,12 @@ thenNode (node.Found n) faulty go = go n
 thenNode node.Fault faulty go = faulty
 
 -- in this order: edge and offset are read (15), the name fits the room (18), the offset is not that of an open node (16), the node is
--- read (15). `kept` is the length of the name of the node whose child it is, `place` that of the edge
-unfoldable pub childAt : List ℕ → (room : ℕ) (opened : List ℕ) (kept place : ℕ) → Child
-childAt s room opened kept place =
+-- read (15). Behind these comes 17 (`subtree` in Listing.antt, `visitChild` in Call.antt), and only then is the node listed and its edge put
+-- into the buffer. `ancestors` has the offsets of the open nodes, `kept` is the length of the parent's name, `place` where the edge is
+unfoldable pub childAt : List ℕ → (room : ℕ) (ancestors : List ℕ) (kept place : ℕ) → Child
+childAt s room ancestors kept place =
     thenEdge (edgeAt s place) (Refused FaultyNode)
     (λ e.
     cond (ltb room (kept + e .length)) (Refused NameTooLong)
-    (cond (isOneOf (e .offset) opened) (Refused ChildIsOpen)
+    (cond (isOneOf (e .offset) ancestors) (Refused ChildIsOpen)
     (thenNode (nodeAt s (e .offset)) (Refused FaultyNode) (λ n. Found e n))))

@@ -1,6 +1,7 @@
--- The exports trie, as mach-o/loader.h describes it. The node at an offset from the trie's start: the size of its terminal area (ULEB), the
+-- The exports trie of mach-o/loader.h. The node at an offset from the trie's start: the size of its terminal area (ULEB), the
 -- area, the number of its children (a byte), and for each child an edge: a string, and the offset of the child's node (ULEB). An area
--- of size 0 is none; any other begins with export data, and the bytes of it behind them are ignored.
+-- of size 0 is none; any other begins with export data. Where the header is silent the crate is followed: the bytes of an area behind
+-- the export data are ignored, and flags that the header has no name for are a fault.
 use Prim.Native.Nat.{ℕ, _+_, _/_, _%_}
 use mathlib.Core.Bool.{Bool, cond}
 use mathlib.Core.List.{List}
@@ -41,9 +42,10 @@ unfoldable pub reexportAt : List ℕ → (flags at : ℕ) → ExportRead
 reexportAt s flags at =
     thenNumber (ulebAt s at) export.Fault
     (λ ordinal next. thenText (stringAt s next) export.Fault
-    (λ place length behind. exported flags (Reexport (record { ordinal = ordinal; place = place; length = length }))))
+    (λ place len behind. exported flags (Reexport (record { ordinal = ordinal; place = place; length = len }))))
 
--- EXPORT_SYMBOL_FLAGS_REEXPORT is 0x08, EXPORT_SYMBOL_FLAGS_STUB_AND_RESOLVER 0x10; of a symbol that has both, the first says what follows
+-- EXPORT_SYMBOL_FLAGS_REEXPORT is 0x08, EXPORT_SYMBOL_FLAGS_STUB_AND_RESOLVER 0x10; of a symbol that has both, the first says what
+-- follows. 0x3f has every bit that the header names
 unfoldable pub exportAt : List ℕ → ℕ → ExportRead
 exportAt s at =
     thenNumber (ulebAt s at) export.Fault
@@ -72,7 +74,7 @@ unfoldable pub nodeAt : List ℕ → (offset : ℕ) → NodeRead
 nodeAt s offset =
     thenNumber (ulebAt s offset) node.Fault
     (λ size at.
-    cond (eqb size 0) (countedAt s terminal.Inner at)
+    cond (eqb size 0) (countedAt s terminal.NoExport at)
     (cond (leb (at + size) (length s))
     (thenExport (exportAt (take (at + size) s) at) node.Fault (λ x. countedAt s (terminal.Export x) (at + size)))
     node.Fault))
@@ -82,5 +84,5 @@ nodeAt s offset =
 unfoldable pub edgeAt : List ℕ → ℕ → EdgeRead
 edgeAt s at =
     thenText (stringAt s at) edge.Fault
-    (λ place length next. thenNumber (ulebAt s next) edge.Fault
-    (λ offset behind. edge.Found (record { place = place; length = length; offset = offset; next = behind })))
+    (λ place len next. thenNumber (ulebAt s next) edge.Fault
+    (λ offset behind. edge.Found (record { place = place; length = len; offset = offset; next = behind })))

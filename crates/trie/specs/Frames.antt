@@ -1,4 +1,5 @@
--- The open nodes of a walk: of each of its arrays the first `d`, the last of them for the node on top.
+-- The open nodes of a walk: of each of its arrays the first `d`, the last of them for the node on top. A node on top that has no child
+-- left to read is still one of them until a call closes it.
 use Prim.Native.Nat.{ℕ, zero, suc}
 use mathlib.Core.Bool.{Bool, false, cond, _||_}
 use mathlib.Core.List.{List, [], _∷_}
@@ -9,7 +10,7 @@ use lib.ListN.{getD}
 abbrev pub most : ℕ
 most = 256
 
--- a walk that has not begun has none
+-- a walk that has not begun has none, whatever its depth
 abbrev pub openNodes : (begun : Bool) (depth : ℕ) → ℕ
 openNodes begun depth = cond begun depth 0
 

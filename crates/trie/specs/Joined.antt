@@ -4,18 +4,18 @@ use mathlib.Core.List.{List, [], _∷_}
 use mathlib.Core.Option.{Option, none, some}
 use lib.ListN.{take}
 use Rattle.trie.specs.Call.{Answer, export, more, end, refused, call}
+use Rattle.trie.specs.Exported.{Exported, exportTold}
 use Rattle.trie.specs.Listing.{Visit, Listing, ends, refuses, lists}
 use Rattle.trie.specs.declared.TrieWalk.{TrieWalk}
-use Rattle.trie.specs.declared.export.Export.{Export}
 use Rattle.trie.specs.declared.node.Terminal.{Terminal}
 use Rattle.trie.specs.declared.node.Terminal.the-variants as terminal
 
 -- an export with its name
 pub record Symbol : Type 0 where
   pub name : List ℕ
-  pub export : Export
+  pub export : Exported
 
-abbrev pub symbol : List ℕ → Export → Symbol
+abbrev pub symbol : List ℕ → Exported → Symbol
 symbol name x = record { name = name; export = x }
 
 pub data Ending : Type 0 where
@@ -33,7 +33,7 @@ joined exports visits ending = record { exports = exports; visits = visits; endi
 
 -- a call that made n visits and left this buffer, and then the rest
 abbrev pub join : (n : ℕ) (buffer : List ℕ) → (rest : Joined) → Answer → Joined
-join n b rest (export length x) = joined (symbol (take length b) x ∷ rest .exports) (n + rest .visits) (rest .ending)
+join n b rest (export len x) = joined (symbol (take len b) x ∷ rest .exports) (n + rest .visits) (rest .ending)
 join n b rest more = joined (rest .exports) (n + rest .visits) (rest .ending)
 join n b rest end = joined [] n (some atEnd)
 join n b rest (refused number) = joined [] n (some (atRefusal number))
@@ -48,14 +48,14 @@ calls s w b (k ∷ ks) =
 
 -- ---- what a listing says
 
-abbrev pub exported : List ℕ → Terminal → List Symbol → List Symbol
-exported name terminal.Inner symbols = symbols
-exported name (terminal.Export x) symbols = symbol name x ∷ symbols
+abbrev pub withSymbol : List ℕ → Terminal → List Symbol → List Symbol
+withSymbol name terminal.NoExport symbols = symbols
+withSymbol name (terminal.Export x) symbols = symbol name (exportTold x) ∷ symbols
 
 unfoldable pub exportsIn : Listing → List Symbol
 exportsIn ends = []
 exportsIn (refuses number) = []
-exportsIn (lists v l) = exported (v .name) (v .terminal) (exportsIn l)
+exportsIn (lists v l) = withSymbol (v .name) (v .terminal) (exportsIn l)
 
 unfoldable pub visitsIn : Listing → ℕ
 visitsIn ends = 0

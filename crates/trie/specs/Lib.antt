@@ -1,4 +1,5 @@
 pub mod ExportsTrie
+pub mod Exported
 pub mod Frames
 pub mod Child
 pub mod Listing

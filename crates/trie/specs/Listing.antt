@@ -1,5 +1,5 @@
 -- What a trie lists: every node in preorder, edges in stored order, each with its whole name; and how that ends. `room` is the longest
--- name there may be, `most` how many nodes may be open at once; a node is open until its whole subtree is listed.
+-- name there may be. A node is open until its whole subtree is listed: where a node is listed, the open ones are its ancestors.
 use Prim.Native.Nat.{ℕ, zero, suc}
 use mathlib.Core.List.{List, [], _∷_, _++_}
 use lib.ListN.{length}
@@ -37,21 +37,22 @@ lists v k then l = lists v (k then l)
 
 module _ (s : List ℕ) (room : ℕ) where
   -- a child: `below` lists a node and what is below it, `later` the children behind it, from their place on
-  unfoldable pub child : (below : (opened name : List ℕ) (offset : ℕ) → Node → Listing) (later : ℕ → Listing) (opened name : List ℕ) → Child → Listing
-  child below later opened name (Refused e) = refuses (numberOf e)
-  child below later opened name (Found e n) = below opened (name ++ partOf s (e .place) (e .length)) (e .offset) n then later (e .next)
+  unfoldable pub child : (below : (ancestors name : List ℕ) (offset : ℕ) → Node → Listing) (later : ℕ → Listing) (ancestors name : List ℕ) → Child → Listing
+  child below later ancestors name (Refused e) = refuses (numberOf e)
+  child below later ancestors name (Found e n) = below ancestors (name ++ partOf s (e .place) (e .length)) (e .offset) n then later (e .next)
 
   -- n children, the first edge at a place
-  unfoldable pub children : (below : (opened name : List ℕ) (offset : ℕ) → Node → Listing) (opened name : List ℕ) (n place : ℕ) → Listing
-  children below opened name zero place = ends
-  children below opened name (suc n) place =
-      child below (children below opened name n) opened name (childAt s room opened (length name) place)
+  unfoldable pub children : (below : (ancestors name : List ℕ) (offset : ℕ) → Node → Listing) (ancestors name : List ℕ) (n place : ℕ) → Listing
+  children below ancestors name zero place = ends
+  children below ancestors name (suc n) place =
+      child below (children below ancestors name n) ancestors name (childAt s room ancestors (length name) place)
 
-  -- a node and what is below it, where k nodes more may be open
-  unfoldable pub subtree : (k : ℕ) (opened name : List ℕ) (offset : ℕ) → Node → Listing
-  subtree zero opened name offset n = refuses (numberOf TooManyOpenNodes)
-  subtree (suc k) opened name offset n =
-      lists (visit name offset (n .terminal)) (children (subtree k) (offset ∷ opened) name (n .children) (n .place))
+  -- a node and what is below it, where k nodes more may be open, this one among them
+  unfoldable pub subtree : (k : ℕ) (ancestors name : List ℕ) (offset : ℕ) → Node → Listing
+  subtree zero ancestors name offset n = refuses (numberOf TooManyOpenNodes)
+  subtree (suc k) ancestors name offset n =
+      lists (visit name offset (n .terminal)) (children (subtree k) (offset ∷ ancestors) name (n .children) (n .place))
 
-  unfoldable pub listing : (most : ℕ) → Listing
-  listing most = thenNode (nodeAt s 0) (refuses (numberOf FaultyNode)) (λ n. subtree most [] [] 0 n)
+  -- from the root, where k nodes may be open at once: of a walk, `most` (Frames.antt)
+  unfoldable pub listing : (k : ℕ) → Listing
+  listing k = thenNode (nodeAt s 0) (refuses (numberOf FaultyNode)) (λ n. subtree k [] [] 0 n)

@@ -34,6 +34,7 @@ pub(crate) fn read_child(
     let EdgeRead::Found(edge) = read_edge(s, place as usize) else {
         return Child::Refused(Refusal::FaultyNode);
     };
+    // Both are asked here, and told in the order of the definition.
     let long = is_long(kept, edge.length, room);
     let open = is_open(offsets, depth, edge.offset);
     if long {

@@ -9,7 +9,7 @@ use numbers::strings::Text;
 use numbers::strings::read_string;
 
 // The library that a symbol is taken from, and the place and length in the trie's bytes of the name
-// that it has there; an empty one is the export's own.
+// that it has there. (By mach-o/loader.h an empty name stands for the export's own.)
 pub struct Import {
     pub ordinal: u64,
     pub place: usize,

@@ -3,6 +3,9 @@ ghost use mathlib.Core.Path.{_≡_};
 ghost use Prim.Native.Nat.{_≤_};
 ghost use Rattle.trie.specs.Frames.{openNodes, topDown, isOneOf, oneAbove, outOfRange, stillOpen};
 
+// How many there may be at once: the length of the arrays.
+pub(crate) const MOST: usize = 256;
+
 // How many there are: none before the walk has begun.
 pub(crate) fn open_nodes(begun: bool, depth: usize) -> usize
     ensures { λ r. ⌜ r ≡ openNodes begun depth ⌝ }
@@ -20,7 +23,7 @@ pub(crate) fn out_of_range<'a>(
 ) -> bool
     ensures { λ r. ⌜ r ≡ outOfRange (now (places .entry)) (now (lengths .entry)) depth bytes room ⌝ }
 {
-    if 256 < depth {
+    if MOST < depth {
         return true;
     }
     if one_above(places, depth, bytes as u64) {

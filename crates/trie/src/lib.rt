@@ -17,6 +17,7 @@ mod node;
 use child::Child;
 use child::read_child;
 use export::Export;
+use frames::MOST;
 use frames::open_nodes;
 use frames::out_of_range;
 use frames::still_open;
@@ -27,9 +28,9 @@ use node::read_node;
 use numbers::parts::part;
 use refusal::Refusal;
 
-// The first `depth` elements of each array are those of the open nodes, the one on top last: where its
-// next edge is read, its offset, how many of its children are left, and the length of its name. Whether
-// the root has been visited, and whether the walk has ended.
+// Once the walk has begun, the first `depth` elements of each array are those of the open nodes, the one
+// on top last: where its next edge is read, its offset, how many of its children are still to be read,
+// and the length of its name. Whether the root has been visited, and whether the walk has ended.
 pub struct TrieWalk {
     pub places: [u64; 256],
     pub offsets: [u64; 256],
@@ -69,7 +70,8 @@ impl TrieWalk {
         }
     }
 
-    // At most `limit` nodes are visited, until there is something to answer.
+    // Visits at most `limit` nodes, until there is something to answer. To be lent the same bytes at each
+    // call, and the buffer as the last call left it.
     pub fn step(self, s: &[u8], name: &mut [u8], limit: u64) -> TrieStep
         ensures { λ r. ⌜ (told r, now (name .exit)) ≡ call (now (s .entry)) limit self (now (name .entry)) ⌝ }
     {
@@ -100,7 +102,7 @@ impl TrieWalk {
         let w = self.rooted(node.place as u64, node.children);
         let terminal = node.terminal;
         match terminal {
-            Terminal::Inner => self.onward(w, s, name, limit, 1),
+            Terminal::NoExport => self.onward(w, s, name, limit, 1),
             Terminal::Export(export) => w.answer(TrieAnswer::Export { length: 0, export }, 1),
         }
     }
@@ -131,7 +133,7 @@ impl TrieWalk {
                     return self.refused(e, visits);
                 }
                 Child::Found(edge, node) => {
-                    if 256 <= depth {
+                    if MOST <= depth {
                         return self.refused(Refusal::TooManyOpenNodes, visits);
                     }
                     put(part(s, edge.place, edge.length), name, kept as usize);
@@ -147,7 +149,7 @@ impl TrieWalk {
                     visits += 1;
                     let terminal = node.terminal;
                     match terminal {
-                        Terminal::Inner => {}
+                        Terminal::NoExport => {}
                         Terminal::Export(export) => {
                             return w.answer(TrieAnswer::Export { length, export }, visits);
                         }

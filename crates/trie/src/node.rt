@@ -9,9 +9,9 @@ use numbers::leb128::read_uleb;
 use numbers::strings::Text;
 use numbers::strings::read_string;
 
-// Whether a node exports a symbol of its name, and which.
+// What a node exports under its name.
 pub(crate) enum Terminal {
-    Inner,
+    NoExport,
     Export(Export),
 }
 
@@ -48,7 +48,7 @@ pub(crate) fn read_node(s: &[u8], offset: u64) -> NodeRead
         return NodeRead::Fault;
     };
     if size == 0 {
-        return counted(s, Terminal::Inner, at);
+        return counted(s, Terminal::NoExport, at);
     }
     if ((s.len() - at) as u64) < size {
         return NodeRead::Fault;

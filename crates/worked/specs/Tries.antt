@@ -3,12 +3,11 @@
 use Prim.Native.Nat.{ℕ, zero, suc, _+_, _/_, _%_}
 use mathlib.Core.List.{List, [], _∷_}
 use mathlib.Core.Option.{some}
+use Rattle.trie.specs.Exported.{Exported, Target, regular, reexport, stubAndResolver}
 use Rattle.trie.specs.Joined.{symbol, atEnd, atRefusal, Joined, joined}
-use Rattle.trie.specs.declared.export.Export.{Export}
-use Rattle.trie.specs.declared.export.ExportData.the-variants.{Regular, Reexport, StubAndResolver}
 
-abbrev pub regular : (flags address : ℕ) → Export
-regular flags address = record { flags = flags; target = Regular address }
+abbrev pub exports : (flags : ℕ) → Target → Exported
+exports flags target = record { flags = flags; target = target }
 
 -- a trie, the room for a name, and what it is to say
 pub record Sample : Type 0 where
@@ -52,12 +51,12 @@ row (suc n) at = 0x00 ∷ 0x01 ∷ 0x00 ∷ ((at + 5) % 128 + 128) ∷ ((at + 5)
 abbrev pub samples : List Sample
 samples =
     record { bytes = empty; room = 9; says = joined [] 0 (some (atRefusal 15)) }
-    ∷ record { bytes = emptyEdge; room = 0; says = joined (symbol [] (regular 0 5) ∷ symbol [] (regular 0 7) ∷ []) 2 (some atEnd) }
-    ∷ record { bytes = shared; room = 2; says = joined (symbol (0x61 ∷ 0x62 ∷ []) (regular 1 0x10) ∷ symbol (0x63 ∷ []) (regular 1 0x10) ∷ []) 3 (some atEnd) }
+    ∷ record { bytes = emptyEdge; room = 0; says = joined (symbol [] (exports 0x00 (regular 5)) ∷ symbol [] (exports 0x00 (regular 7)) ∷ []) 2 (some atEnd) }
+    ∷ record { bytes = shared; room = 2; says = joined (symbol (0x61 ∷ 0x62 ∷ []) (exports 0x01 (regular 0x10)) ∷ symbol (0x63 ∷ []) (exports 0x01 (regular 0x10)) ∷ []) 3 (some atEnd) }
     ∷ record { bytes = shared; room = 1; says = joined [] 1 (some (atRefusal 18)) }
     ∷ record { bytes = loop; room = 9; says = joined [] 2 (some (atRefusal 16)) }
     ∷ record { bytes = loop; room = 1; says = joined [] 2 (some (atRefusal 18)) }
-    ∷ record { bytes = kinds; room = 9; says = joined (symbol [] (record { flags = 0x08; target = Reexport (record { ordinal = 1; place = 3; length = 2 }) }) ∷ symbol (0x61 ∷ []) (record { flags = 0x10; target = StubAndResolver 0x20 0x30 }) ∷ []) 2 (some atEnd) }
+    ∷ record { bytes = kinds; room = 9; says = joined (symbol [] (exports 0x08 (reexport 1 3 2)) ∷ symbol (0x61 ∷ []) (exports 0x10 (stubAndResolver 0x20 0x30)) ∷ []) 2 (some atEnd) }
     ∷ record { bytes = unknownFlags; room = 9; says = joined [] 0 (some (atRefusal 15)) }
     ∷ record { bytes = shortArea; room = 9; says = joined [] 0 (some (atRefusal 15)) }
     ∷ []
