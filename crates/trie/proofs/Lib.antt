@@ -10,3 +10,4 @@ pub mod Tells
 pub mod Joined
 pub mod Stops
 pub mod Unique
+pub mod Alike

@@ -372,7 +372,7 @@ module _ (s : List ℕ) (room : ℕ) where
 
 -- ---- a call
 
-any-none : (p : ℕ → Bool) (xs : List ℕ) (d : ℕ) → ((i : ℕ) → i < d → p (getD xs i 0) ≡ false) → any p (topDown xs d) ≡ false
+pub any-none : (p : ℕ → Bool) (xs : List ℕ) (d : ℕ) → ((i : ℕ) → i < d → p (getD xs i 0) ≡ false) → any p (topDown xs d) ≡ false
 unfolding any topDown
 any-none p xs zero h = refl
 any-none p xs (suc d) h = rw (h d (omega arith)) (any-none p xs d (λ i l. h i (omega arith)))
