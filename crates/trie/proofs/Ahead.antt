@@ -2,11 +2,10 @@
 use Prim.Native.Nat.{ℕ, zero, suc, _+_, _-_, _≤_, _<_}
 use mathlib.Core.Path.{_≡_, refl, sym, ap, _∙_}
 use mathlib.Core.Bool.{Bool, true, false, cond}
-use mathlib.Core.List.{List, [], _∷_, _++_}
+use mathlib.Core.List.{List, _∷_, _++_}
 use native.Mathlib.Nat.{le-trans}
-use native.Mathlib.Numerals.{add-one}
 use native.Mathlib.Omega.{arith}
-use borrow.Author.Tests.{eqb-true, eqb-false, le-leb}
+use borrow.Author.Tests.{eqb-true, le-leb}
 use lib.Dec.{eqb}
 use lib.ListN.{length, getD, set, take, drop, length-set, length-append, length-drop}
 use lib.Seq.{getD-set-same, getD-set-other, length-take-le, take-append-le, take-at, take-take}
@@ -15,10 +14,10 @@ use Rattle.numbers.specs.Parts.{partOf}
 use Rattle.refusal.specs.Numbers.{numberOf}
 use Rattle.refusal.specs.declared.Refusal.{Refusal}
 use Rattle.refusal.specs.declared.Refusal.the-variants.{TooManyOpenNodes}
-use Rattle.trie.specs.Call.{passed, opened, put}
+use Rattle.trie.specs.Call.{put}
 use Rattle.trie.specs.Child.{childAt}
 use Rattle.trie.specs.Frames.{most, topDown, stillOpen}
-use Rattle.trie.specs.Listing.{Visit, visit, Listing, ends, refuses, lists, _then_, child, children, subtree}
+use Rattle.trie.specs.Listing.{visit, Listing, ends, refuses, lists, _then_, child, children, subtree}
 use Rattle.trie.specs.declared.TrieWalk.{TrieWalk}
 use Rattle.trie.specs.declared.child.Child.{Child}
 use Rattle.trie.specs.declared.child.Child.the-variants.{Found, Refused}
@@ -65,22 +64,24 @@ module _ (bytes b : List ℕ) (at : ℕ) (fits : at + length bytes ≤ length b)
       ∙ take-append-le i (take at b) bytes (omega (arith, length-take-le at b (omega arith)))
       ∙ take-take i at b h
 
--- ---- what the open nodes hold: read places in the bytes, names that the name above begins with, the topmost in the room m
+-- ---- the names of the open nodes: each begins with those below it, and the topmost fits the room m
 
-abbrev pub Held : (bytes : ℕ) → TrieWalk → (m d : ℕ) → Type 0
-Held bytes w m zero = Unit {0}
-Held bytes w m (suc d) = (getD (w .places) d 0 ≤ bytes) × (getD (w .lengths) d 0 ≤ m) × Held bytes w (getD (w .lengths) d 0) d
+abbrev pub Nested : TrieWalk → (m d : ℕ) → Type 0
+Nested w m zero = Unit {0}
+Nested w m (suc d) = (getD (w .lengths) d 0 ≤ m) × Nested w (getD (w .lengths) d 0) d
 
-held-more : (bytes : ℕ) (w : TrieWalk) (m n d : ℕ) → m ≤ n → Held bytes w m d → Held bytes w n d
-held-more bytes w m n zero l h = tt
-held-more bytes w m n (suc d) l h = (h .0, le-trans (h .1) l, h .2)
+nested-more : (w : TrieWalk) (m n d : ℕ) → m ≤ n → Nested w m d → Nested w n d
+nested-more w m n zero l h = tt
+nested-more w m n (suc d) l h = (le-trans (h .0) l, h .1)
 
-pub held-still : (bytes : ℕ) (w : TrieWalk) (m d : ℕ) → Held bytes w m d → Held bytes w m (stillOpen (w .left) d)
+pub nested-still : (w : TrieWalk) (m d : ℕ) → Nested w m d → Nested w m (stillOpen (w .left) d)
 unfolding stillOpen
-held-still bytes w m zero h = tt
-held-still bytes w m (suc d) h = by (eqb (getD (w .left) d 0) 0) (held-more bytes w (getD (w .lengths) d 0) m (stillOpen (w .left) d) (h .1) (held-still bytes w (getD (w .lengths) d 0) d (h .2)))
+nested-still w m zero h = tt
+nested-still w m (suc d) h =
+    by (eqb (getD (w .left) d 0) 0)
+    (nested-more w (getD (w .lengths) d 0) m (stillOpen (w .left) d) (h .0) (nested-still w (getD (w .lengths) d 0) d (h .1)))
   where
-    by : (t : Bool) → Held bytes w m (stillOpen (w .left) d) → Held bytes w m (cond t (stillOpen (w .left) d) (suc d))
+    by : (t : Bool) → Nested w m (stillOpen (w .left) d) → Nested w m (cond t (stillOpen (w .left) d) (suc d))
     by true k = k
     by false k = h
 
@@ -112,12 +113,11 @@ unfolding topDown
 top-same xs ys zero q = refl
 top-same xs ys (suc d) q = λ j. q d (omega arith) j ∷ top-same xs ys d (λ i l. q i (omega arith)) j
 
-pub held-same : (bytes : ℕ) (v w : TrieWalk) (m d : ℕ) → Same v w d → Held bytes w m d → Held bytes v m d
-held-same bytes v w m zero q h = tt
-held-same bytes v w m (suc d) q h =
-    let p = q .places d (omega arith) in
+pub nested-same : (v w : TrieWalk) (m d : ℕ) → Same v w d → Nested w m d → Nested v m d
+nested-same v w m zero q h = tt
+nested-same v w m (suc d) q h =
     let l = q .lengths d (omega arith) in
-    (omega (arith, p, h .0), omega (arith, l, h .1), rw l (held-same bytes v w (getD (w .lengths) d 0) d (fewer v w d q) (h .2)))
+    (omega (arith, l, h .0), rw l (nested-same v w (getD (w .lengths) d 0) d (fewer v w d q) (h .1)))
 
 -- ---- what is still to be listed
 
@@ -145,18 +145,18 @@ module _ (s : List ℕ) (room : ℕ) where
       by false e k = refl
 
   -- the same arrays up to d, and the same names up to m bytes
-  pub ahead-same : (v w : TrieWalk) (b c : List ℕ) (bytes m d : ℕ) → Same v w d → ((i : ℕ) → i ≤ m → take i c ≡ take i b) → Held bytes w m d → aheadAt v c d ≡ aheadAt w b d
+  pub ahead-same : (v w : TrieWalk) (b c : List ℕ) (m d : ℕ) → Same v w d → ((i : ℕ) → i ≤ m → take i c ≡ take i b) → Nested w m d → aheadAt v c d ≡ aheadAt w b d
   unfolding aheadAt
-  ahead-same v w b c bytes m zero q e h = refl
-  ahead-same v w b c bytes m (suc d) q e h =
+  ahead-same v w b c m zero q e h = refl
+  ahead-same v w b c m (suc d) q e h =
       let o = top-same (v .offsets) (w .offsets) (suc d) (q .offsets) in
-      let n = ap (λ (k : ℕ). take k c) (q .lengths d (omega arith)) ∙ e (getD (w .lengths) d 0) (h .1) in
-      let r = ahead-same v w b c bytes (getD (w .lengths) d 0) d (fewer v w d q) (λ i l. e i (le-trans l (h .1))) (h .2) in
+      let n = ap (λ (k : ℕ). take k c) (q .lengths d (omega arith)) ∙ e (getD (w .lengths) d 0) (h .0) in
+      let r = ahead-same v w b c (getD (w .lengths) d 0) d (fewer v w d q) (λ i l. e i (le-trans l (h .0))) (h .1) in
       λ j. children s room (subtree s room (most - suc d)) (o j) (n j) (q .left d (omega arith) j) (q .places d (omega arith) j) then r j
 
   -- ---- the next child of the topmost of suc d, which has one
 
-  module _ (w : TrieWalk) (b : List ℕ) (d : ℕ) (h : Held (length s) w (length b) (suc d)) where
+  module _ (w : TrieWalk) (b : List ℕ) (d : ℕ) (h : Nested w (length b) (suc d)) where
     abbrev kept : ℕ
     kept = getD (w .lengths) d 0
 
@@ -169,7 +169,7 @@ module _ (s : List ℕ) (room : ℕ) where
     unfolding aheadAt children
     child-ahead z {x} e =
         let n : getD (w .left) d 0 ≡ suc (getD (w .left) d 0 - 1) = omega arith in
-        let l : length (take kept b) ≡ kept = length-take-le kept b (h .1) in
+        let l : length (take kept b) ≡ kept = length-take-le kept b (h .0) in
         ap (λ (k : ℕ). children s room (subtree s room (most - suc d)) (topDown (w .offsets) (suc d)) (take kept b) k (getD (w .places) d 0) then aheadAt w b d) n
         ∙ ap (λ (k : ℕ). child s room (subtree s room (most - suc d)) later (topDown (w .offsets) (suc d)) (take kept b) (childAt s room (topDown (w .offsets) (suc d)) k (getD (w .places) d 0)) then aheadAt w b d) l
         ∙ ap (λ (y : Child). child s room (subtree s room (most - suc d)) later (topDown (w .offsets) (suc d)) (take kept b) y then aheadAt w b d) e
@@ -255,7 +255,7 @@ module _ (s : List ℕ) (room : ℕ) where
             sym (put-before (partOf s (x .place) (x .length)) b kept bytes-fit kept (omega arith)) ∙ ap (λ (k : ℕ). take k buffer) (sym (below (w .lengths) d (kept + x .length) (omega arith))) in
             let c₂ = under (w .left) (getD (w .left) d 0 - 1) (n .children) (sized .left) in
             let p₂ = under (w .places) (x .next) (n .place) (sized .places) in
-            let r = ahead-same after w b buffer (length s) kept d same-below (λ i m. put-before (partOf s (x .place) (x .length)) b kept bytes-fit i m) (h .2) in
+            let r = ahead-same after w b buffer kept d same-below (λ i m. put-before (partOf s (x .place) (x .length)) b kept bytes-fit i m) (h .1) in
             child-ahead z e
             ∙ ap (λ (k : ℕ). (subtree s room k (topDown (w .offsets) (suc d)) name (x .offset) n then later (x .next)) then aheadAt w b d) k
             ∙ ap (lists v) (then-assoc below-it (later (x .next)) (aheadAt w b d))
@@ -275,10 +275,8 @@ module _ (s : List ℕ) (room : ℕ) where
         pub length-after : length buffer ≡ length b
         length-after = put-length (partOf s (x .place) (x .length)) b kept bytes-fit
 
-        pub held-after : x .next ≤ length s → n .place ≤ length s → Held (length s) after (length buffer) (suc (suc d))
-        held-after i j =
-            let p = on-top (set (w .places) d (x .next)) (n .place) (length-set (w .places) d (x .next) ∙ sized .places) in
+        pub nested-after : Nested after (length buffer) (suc (suc d))
+        nested-after =
             let m = on-top (w .lengths) (kept + x .length) (sized .lengths) in
-            let p₂ = under (w .places) (x .next) (n .place) (sized .places) in
             let m₂ = below (w .lengths) d (kept + x .length) (omega arith) in
-            (omega (arith, p), omega (arith, m, length-after, fits), (omega (arith, p₂), omega (arith, m, m₂), rw m₂ (held-same (length s) after w kept d same-below (h .2))))
+            (omega (arith, m, length-after, fits), (omega (arith, m, m₂), rw m₂ (nested-same after w kept d same-below (h .1))))

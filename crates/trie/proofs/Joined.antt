@@ -1,129 +1,101 @@
 -- Calls from the start say what the trie lists, whatever their limits; and enough of them come to its end. Assumes nothing.
-use Prim.Native.Nat.{ℕ, zero, suc, _+_, _<_}
+use Prim.Native.Nat.{ℕ, zero, suc, _+_, _≤_, _<_}
 use mathlib.Core.Path.{_≡_, refl, sym, ap, _∙_, subst}
-use mathlib.Core.Bool.{Bool, true, false, true≢false}
-use mathlib.Core.List.{List, [], _∷_, _++_, append-nil}
-use mathlib.Core.Option.{Option, none, some}
+use mathlib.Core.Bool.{false, true≢false}
+use mathlib.Core.List.{List, [], _∷_, _++_}
+use mathlib.Core.Option.{some}
 use native.Mathlib.Omega.{arith}
-use lib.ListN.{length}
-use Rattle.trie.proofs.Tells.{Good, _before_, symbolsOf, symbolIn, stops, leaves, ahead, Tells, call-tells}
-use Rattle.trie.specs.Call.{atStart, Answer, export, more, end, refused, call}
+use lib.ListN.{length, take}
+use Rattle.trie.proofs.Course.{Next, over, stopped, reached, next, Course, call-course}
+use Rattle.trie.proofs.Course as course
+use Rattle.trie.proofs.Fits.{IfReached, course-keeps, sound-ranged}
+use Rattle.trie.proofs.Good.{Good, ahead, Lists, good-closed, next-lists, good-next, good-start}
+use Rattle.trie.proofs.Says.{Says, says-over, says-stopped, says-reached, says-one, course-joins, calls-say}
+use Rattle.trie.proofs.Stops.{stops}
+use Rattle.trie.specs.Call.{atStart, Answer, export, more, end, refused, Reply, call}
 use Rattle.trie.specs.Frames.{most}
 use Rattle.trie.specs.Joined.{Symbol, symbol, Ending, atEnd, atRefusal, Joined, joined, join, calls, withSymbol, exportsIn, visitsIn, endingOf, heard}
-use Rattle.trie.specs.Listing.{Visit, Listing, ends, refuses, lists, listing}
+use Rattle.trie.specs.Listing.{Visit, visit, Listing, ends, refuses, lists, listing}
 use Rattle.trie.specs.declared.TrieWalk.{TrieWalk}
-use Rattle.trie.specs.declared.node.Terminal.{Terminal}
-use Rattle.trie.specs.declared.node.Terminal.the-variants as terminal
-
--- ---- what visits in front of a listing come to
-
-with-append : (name : List ℕ) (t : Terminal) (xs ys : List Symbol) → withSymbol name t (xs ++ ys) ≡ withSymbol name t xs ++ ys
-with-append name terminal.NoExport xs ys = refl
-with-append name (terminal.Export x) xs ys = refl
-
-exports-before : (vs : List Visit) (l : Listing) → exportsIn (vs before l) ≡ symbolsOf vs ++ exportsIn l
-unfolding exportsIn _before_
-exports-before [] l = refl
-exports-before (v ∷ vs) l =
-    ap (withSymbol (v .name) (v .terminal)) (exports-before vs l) ∙ with-append (v .name) (v .terminal) (symbolsOf vs) (exportsIn l)
-
-visits-before : (vs : List Visit) (l : Listing) → visitsIn (vs before l) ≡ length vs + visitsIn l
-unfolding visitsIn _before_
-visits-before [] l = omega arith
-visits-before (v ∷ vs) l = let e = visits-before vs l in omega arith
-
-ending-before : (vs : List Visit) (l : Listing) → endingOf (vs before l) ≡ endingOf l
-unfolding endingOf _before_
-ending-before [] l = refl
-ending-before (v ∷ vs) l = ending-before vs l
-
--- ---- what calls have said of a listing, where they leave `rest`
-
-abbrev only : Ending → Listing
-only atEnd = ends
-only (atRefusal number) = refuses number
-
-abbrev Over : Option Ending → Listing → Type 0
-Over none l = Unit {0}
-Over (some e) l = l ≡ only e
-
-record Covers (l : Listing) (j : Joined) : Type 0 where
-  rest : Listing
-  exports : exportsIn l ≡ j .exports ++ exportsIn rest
-  visits : visitsIn l ≡ j .visits + visitsIn rest
-  ending : endingOf l ≡ endingOf rest
-  over : Over (j .ending) rest
 
 module _ (s : List ℕ) (room : ℕ) where
-  -- a call tells the first of a listing
-  module _ {k : ℕ} {l : Listing} (a : Answer) (w : TrieWalk) (n : ℕ) (b : List ℕ) (t : Tells s room k 0 l (record { answer = a; walk = w; visits = n }, b)) where
-    exports-split : exportsIn l ≡ symbolIn b a ++ exportsIn (leaves (ahead s room w b) a)
-    exports-split =
-        ap exportsIn (t .listed)
-        ∙ exports-before (t .seen) (leaves (ahead s room w b) a)
-        ∙ ap (λ (x : List Symbol). x ++ exportsIn (leaves (ahead s room w b) a)) (t .exports)
+  -- ---- the visits from a state on say what it has ahead
 
-    visits-split : visitsIn l ≡ n + visitsIn (leaves (ahead s room w b) a)
-    visits-split =
-        let e = ap visitsIn (t .listed) ∙ visits-before (t .seen) (leaves (ahead s room w b) a) in omega (arith, e, t .count)
+  says-ahead : (l : Listing) (w : TrieWalk) (b : List ℕ) → Good s room w b → ahead s room w b ≡ l → Says s w b (heard l)
+  unfolding exportsIn visitsIn endingOf
+  says-ahead ends w b g e = by (next s w b) refl (next-lists s room w b g)
+    where
+      by : (x : Next) → next s w b ≡ x → Lists s room (ahead s room w b) x → Says s w b (heard ends)
+      by over f h = says-over f
+      by (stopped x) f h = let z : _≡_ {A = ℕ} 0 1 = cc in absurd (omega arith)
+      by (reached len t v c) f h = let q = h .1 in let z : _≡_ {A = ℕ} 0 1 = cc in absurd (omega arith)
+  says-ahead (refuses y) w b g e = by (next s w b) refl (next-lists s room w b g)
+    where
+      by : (x : Next) → next s w b ≡ x → Lists s room (ahead s room w b) x → Says s w b (heard (refuses y))
+      by over f h = let z : _≡_ {A = ℕ} 0 1 = cc in absurd (omega arith)
+      by (stopped x) f h = let q : x ≡ y = cc in says-stopped (f ∙ ap stopped q)
+      by (reached len t v c) f h = let q = h .1 in let z : _≡_ {A = ℕ} 0 1 = cc in absurd (omega arith)
+  says-ahead (lists u l) w b g e = by (λ v c. says-ahead l v c) (next s w b) refl (next-lists s room w b g) (good-next s room w b g)
+    where
+      by : ((v : TrieWalk) (c : List ℕ) → Good s room v c → ahead s room v c ≡ l → Says s v c (heard l))
+          → (x : Next) → next s w b ≡ x → Lists s room (ahead s room w b) x → IfReached (Good s room) (next s w b) → Says s w b (heard (lists u l))
+      by ih over f h k = let z : _≡_ {A = ℕ} 0 1 = cc in absurd (omega arith)
+      by ih (stopped x) f h k = let z : _≡_ {A = ℕ} 0 1 = cc in absurd (omega arith)
+      by ih (reached len t v c) f h k =
+          let q = h .1 in
+          let m : ahead s room v c ≡ l = cc in
+          let n : visit (take len c) (h .0) t ≡ u = cc in
+          subst (λ (x : Visit). Says s w b (joined (withSymbol (x .name) (x .terminal) (exportsIn l)) (1 + visitsIn l) (some (endingOf l)))) n
+          (says-reached f (ih v c (subst (IfReached (Good s room)) f k) m))
 
-    ending-split : endingOf l ≡ endingOf (leaves (ahead s room w b) a)
-    ending-split = ap endingOf (t .listed) ∙ ending-before (t .seen) (leaves (ahead s room w b) a)
+  -- ---- a call, and what is ahead after it
 
-  -- and the calls after it the rest
-  join-covers : {k : ℕ} {l : Listing} (a : Answer) (w : TrieWalk) (n : ℕ) (b : List ℕ) (j : Joined) → Tells s room k 0 l (record { answer = a; walk = w; visits = n }, b)
-      → (stops a ≡ false → Covers (ahead s room w b) j) → Covers l (join n b j a)
-  join-covers (export len x) w n b j t ih =
-      let c = ih refl in
-      record {
-        rest = c .rest;
-        exports = exports-split (export len x) w n b t ∙ ap (λ (y : List Symbol). symbolIn b (export len x) ++ y) (c .exports);
-        visits = let e = visits-split (export len x) w n b t in omega (arith, e, c .visits);
-        ending = ending-split (export len x) w n b t ∙ c .ending;
-        over = c .over;
-      }
-  join-covers more w n b j t ih =
-      let c = ih refl in
-      record {
-        rest = c .rest;
-        exports = exports-split more w n b t ∙ c .exports;
-        visits = let e = visits-split more w n b t in omega (arith, e, c .visits);
-        ending = ending-split more w n b t ∙ c .ending;
-        over = c .over;
-      }
-  join-covers end w n b j t ih =
-      record { rest = ends; exports = exports-split end w n b t; visits = visits-split end w n b t; ending = ending-split end w n b t; over = refl }
-  join-covers (refused number) w n b j t ih =
-      record {
-        rest = refuses number;
-        exports = exports-split (refused number) w n b t;
-        visits = visits-split (refused number) w n b t;
-        ending = ending-split (refused number) w n b t;
-        over = refl;
-      }
+  module _ (k : ℕ) (w : TrieWalk) (b : List ℕ) (g : Good s room w b) where
+    abbrev p : Reply × List ℕ
+    p = call s k w b
 
-  calls-cover : (ks : List ℕ) (w : TrieWalk) (b : List ℕ) → length b ≡ room → Good s b w → w .ended ≡ false → Covers (ahead s room w b) (calls s w b ks)
+    course-is : Course s w k 0 w b p
+    course-is = call-course s k w b (sound-ranged s room w b (g .sound)) (g .sound .going)
+
+    good-after : stops (p .0 .answer) ≡ false → Good s room (p .0 .walk) (p .1)
+    good-after z = course-keeps s (Good s room) (good-next s room) (good-closed s room) course-is g z
+
+    -- with what is ahead after it, a call says what was ahead before
+    joins-ahead : join (p .0 .visits) (p .1) (heard (ahead s room (p .0 .walk) (p .1))) (p .0 .answer) ≡ heard (ahead s room w b)
+    joins-ahead =
+        let j = heard (ahead s room (p .0 .walk) (p .1)) in
+        let t = course-joins s j course-is (λ z. says-ahead (ahead s room (p .0 .walk) (p .1)) (p .0 .walk) (p .1) (good-after z) refl) in
+        let v : 0 + t .said .visits ≡ t .said .visits = omega arith in
+        t .same ∙ (λ i. joined (t .said .exports) (v i) (t .said .ending)) ∙ says-one s (t .says) (says-ahead (ahead s room w b) w b g refl)
+
+  -- ---- calls that do not come to an end say the first of it
+
+  starts-by : (a : Answer) (n : ℕ) (b : List ℕ) (j i : Joined) → (stops a ≡ false → (rest : List Symbol) × (j .exports ≡ i .exports ++ rest))
+      → (rest : List Symbol) × (join n b j a .exports ≡ join n b i a .exports ++ rest)
+  starts-by (export len x) n b j i h = let r = h refl in (r .0, ap (λ (y : List Symbol). symbol (take len b) x ∷ y) (r .1))
+  starts-by more n b j i h = h refl
+  starts-by end n b j i h = ([], refl)
+  starts-by (refused number) n b j i h = ([], refl)
+
+  calls-start : (ks : List ℕ) (w : TrieWalk) (b : List ℕ) → Good s room w b → (rest : List Symbol) × (exportsIn (ahead s room w b) ≡ calls s w b ks .exports ++ rest)
   unfolding calls
-  calls-cover [] w b r g z = record { rest = ahead s room w b; exports = refl; visits = omega arith; ending = refl; over = tt }
-  calls-cover (k ∷ ks) w b r g z =
-      let p = call s k w b in
-      let t = call-tells s room w b r g z k in
-      join-covers (p .0 .answer) (p .0 .walk) (p .0 .visits) (p .1) (calls s (p .0 .walk) (p .1) ks) t
-      (λ q. calls-cover ks (p .0 .walk) (p .1) (t .long) (t .good q) (t .marked-as ∙ q))
+  calls-start [] w b g = (exportsIn (ahead s room w b), refl)
+  calls-start (k ∷ ks) w b g =
+      let c = call s k w b in
+      let r = starts-by (c .0 .answer) (c .0 .visits) (c .1) (heard (ahead s room (c .0 .walk) (c .1))) (calls s (c .0 .walk) (c .1) ks)
+      (λ z. calls-start ks (c .0 .walk) (c .1) (good-after k w b g z)) in
+      (r .0, sym (ap (λ (j : Joined). j .exports) (joins-ahead k w b g)) ∙ r .1)
 
-  -- ---- the end
+  -- ---- enough calls come to an end
 
-  join-ends : (a : Answer) (n : ℕ) (b : List ℕ) (j : Joined) → (stops a ≡ false → (e : Ending) × (j .ending ≡ some e)) → (e : Ending) × (join n b j a .ending ≡ some e)
-  join-ends (export len x) n b j h = h refl
-  join-ends more n b j h = h refl
-  join-ends end n b j h = (atEnd, refl)
-  join-ends (refused number) n b j h = (atRefusal number, refl)
-
-  goes-on : (a : Answer) (l : Listing) → stops a ≡ false → leaves l a ≡ l
-  goes-on (export len x) l q = refl
-  goes-on more l q = refl
-  goes-on end l q = absurd (true≢false q)
-  goes-on (refused number) l q = absurd (true≢false q)
+  course-moves : {given : TrieWalk} {k n : ℕ} {w : TrieWalk} {b : List ℕ} {q : Reply × List ℕ} → Course s given k n w b q
+      → (n ≤ q .0 .visits) × (0 < k → stops (q .0 .answer) ≡ false → n < q .0 .visits)
+  course-moves (course.ends e z) = (omega arith, λ h q. absurd (true≢false q))
+  course-moves (course.refuses e) = (omega arith, λ h q. absurd (true≢false q))
+  course-moves course.waits = (omega arith, λ h q. absurd (omega arith))
+  course-moves (course.limits y) = (omega arith, λ h q. absurd (omega arith))
+  course-moves (course.exports e) = (omega arith, λ h q. omega arith)
+  course-moves (course.visits e c) = let m = course-moves c .0 in (omega arith, λ h q. omega arith)
 
 -- how many of the limits are not 0
 unfoldable pub nonzero : (limits : List ℕ) → ℕ
@@ -132,69 +104,52 @@ nonzero (zero ∷ ks) = nonzero ks
 nonzero (suc k ∷ ks) = suc (nonzero ks)
 
 module _ (s : List ℕ) (room : ℕ) where
-  module _ (w : TrieWalk) (b : List ℕ) (r : length b ≡ room) (g : Good s b w) (z : w .ended ≡ false) where
-    fewer : (k : ℕ) (ks : List ℕ) → visitsIn (ahead s room w b) < nonzero (k ∷ ks) → stops (call s k w b .0 .answer) ≡ false
-        → visitsIn (ahead s room (call s k w b .0 .walk) (call s k w b .1)) < nonzero ks
-    unfolding nonzero
-    fewer zero ks h q =
-        let p = call s zero w b in
-        let t = call-tells s room w b r g z zero in
-        let e = visits-split s room (p .0 .answer) (p .0 .walk) (p .0 .visits) (p .1) t in
-        let f = ap visitsIn (goes-on s room (p .0 .answer) (ahead s room (p .0 .walk) (p .1)) q) in
-        omega (arith, e, f)
-    fewer (suc k) ks h q =
-        let p = call s (suc k) w b in
-        let t = call-tells s room w b r g z (suc k) in
-        let e = visits-split s room (p .0 .answer) (p .0 .walk) (p .0 .visits) (p .1) t in
-        let f = ap visitsIn (goes-on s room (p .0 .answer) (ahead s room (p .0 .walk) (p .1)) q) in
-        let m = t .moves (omega arith) q in
-        omega (arith, e, f, m, t .count)
+  visits-by : (a : Answer) (n : ℕ) (b : List ℕ) (j : Joined) → stops a ≡ false → join n b j a .visits ≡ n + j .visits
+  visits-by (export len x) n b j z = refl
+  visits-by more n b j z = refl
+  visits-by end n b j z = absurd (true≢false z)
+  visits-by (refused number) n b j z = absurd (true≢false z)
 
-  calls-end : (ks : List ℕ) (w : TrieWalk) (b : List ℕ) → length b ≡ room → Good s b w → w .ended ≡ false → visitsIn (ahead s room w b) < nonzero ks
-      → (e : Ending) × (calls s w b ks .ending ≡ some e)
+  fewer : (k : ℕ) (ks : List ℕ) (w : TrieWalk) (b : List ℕ) → Good s room w b → visitsIn (ahead s room w b) < nonzero (k ∷ ks) → stops (call s k w b .0 .answer) ≡ false
+      → visitsIn (ahead s room (call s k w b .0 .walk) (call s k w b .1)) < nonzero ks
+  unfolding nonzero
+  fewer zero ks w b g h z =
+      let c = call s zero w b in
+      let e = sym (visits-by (c .0 .answer) (c .0 .visits) (c .1) (heard (ahead s room (c .0 .walk) (c .1))) z) ∙ ap (λ (j : Joined). j .visits) (joins-ahead s room zero w b g) in
+      omega (arith, e)
+  fewer (suc k) ks w b g h z =
+      let c = call s (suc k) w b in
+      let e = sym (visits-by (c .0 .answer) (c .0 .visits) (c .1) (heard (ahead s room (c .0 .walk) (c .1))) z) ∙ ap (λ (j : Joined). j .visits) (joins-ahead s room (suc k) w b g) in
+      let m = course-moves s room (course-is s room (suc k) w b g) .1 (omega arith) z in
+      omega (arith, e, m)
+
+  ends-by : (a : Answer) (n : ℕ) (b : List ℕ) (j : Joined) → (stops a ≡ false → (e : Ending) × (j .ending ≡ some e)) → (e : Ending) × (join n b j a .ending ≡ some e)
+  ends-by (export len x) n b j h = h refl
+  ends-by more n b j h = h refl
+  ends-by end n b j h = (atEnd, refl)
+  ends-by (refused number) n b j h = (atRefusal number, refl)
+
+  calls-end : (ks : List ℕ) (w : TrieWalk) (b : List ℕ) → Good s room w b → visitsIn (ahead s room w b) < nonzero ks → (e : Ending) × (calls s w b ks .ending ≡ some e)
   unfolding calls
-  calls-end [] w b r g z h = unfold nonzero in absurd (omega arith)
-  calls-end (k ∷ ks) w b r g z h =
-      let p = call s k w b in
-      let t = call-tells s room w b r g z k in
-      join-ends s room (p .0 .answer) (p .0 .visits) (p .1) (calls s (p .0 .walk) (p .1) ks)
-      (λ q. calls-end ks (p .0 .walk) (p .1) (t .long) (t .good q) (t .marked-as ∙ q) (fewer w b r g z k ks h q))
-
-none-left : (e : Ending) → (exportsIn (only e) ≡ []) × (visitsIn (only e) ≡ 0) × (endingOf (only e) ≡ e)
-unfolding exportsIn visitsIn endingOf
-none-left atEnd = (refl, refl, refl)
-none-left (atRefusal number) = (refl, refl, refl)
-
-whole : (l : Listing) (j : Joined) (e : Ending) → Covers l j → j .ending ≡ some e → j ≡ heard l
-whole l j e c q =
-    let r : c .rest ≡ only e = subst (λ (x : Option Ending). Over x (c .rest)) q (c .over) in
-    let n = none-left e in
-    let x : exportsIn l ≡ j .exports = c .exports ∙ ap (λ (y : List Symbol). j .exports ++ y) (ap exportsIn r ∙ n .0) ∙ append-nil (j .exports) in
-    let m : visitsIn (c .rest) ≡ 0 = ap visitsIn r ∙ n .1 in
-    let v : visitsIn l ≡ j .visits = omega (arith, m, c .visits) in
-    let d : endingOf l ≡ e = c .ending ∙ ap endingOf r ∙ n .2 in
-    λ i. joined (sym x i) (sym v i) ((q ∙ ap some (sym d)) i)
+  calls-end [] w b g h = unfold nonzero in absurd (omega arith)
+  calls-end (k ∷ ks) w b g h =
+      let c = call s k w b in
+      ends-by (c .0 .answer) (c .0 .visits) (c .1) (calls s (c .0 .walk) (c .1) ks)
+      (λ z. calls-end ks (c .0 .walk) (c .1) (good-after s room k w b g z) (fewer k ks w b g h z))
 
 -- ---- from the start, with any bytes, any buffer and any limits
 
-module _ (s b : List ℕ) where
-  start-good : Good s b atStart
-  start-good = record { sized = record { places = refl; offsets = refl; left = refl; lengths = refl }; fits = omega arith; held = tt }
+module _ (s b limits : List ℕ) where
+  -- calls that come to an end say what the trie lists: its exports, the number of its visits, its ending
+  pub joined-says : {e : Ending} → calls s atStart b limits .ending ≡ some e → calls s atStart b limits ≡ heard (listing s (length b) most)
+  joined-says q =
+      let g = good-start s b in
+      says-one s (calls-say s (length b) limits atStart b (g .sound) q) (says-ahead s (length b) (listing s (length b) most) atStart b g refl)
 
-  module _ (limits : List ℕ) where
-    -- calls that come to an end say what the trie lists: its exports, the number of its visits, its ending
-    pub joined-says : {e : Ending} → calls s atStart b limits .ending ≡ some e → calls s atStart b limits ≡ heard (listing s (length b) most)
-    joined-says {e} q = whole (listing s (length b) most) (calls s atStart b limits) e (calls-cover s (length b) limits atStart b refl start-good refl) q
+  -- calls that do not, say the first of its exports
+  pub joined-starts : (rest : List Symbol) × (exportsIn (listing s (length b) most) ≡ calls s atStart b limits .exports ++ rest)
+  joined-starts = calls-start s (length b) limits atStart b (good-start s b)
 
-    -- calls that do not, say the first of its exports
-    pub joined-starts : (rest : List Symbol) × (exportsIn (listing s (length b) most) ≡ calls s atStart b limits .exports ++ rest)
-    joined-starts = let c = calls-cover s (length b) limits atStart b refl start-good refl in (exportsIn (c .rest), c .exports)
-
-    -- calls do come to an end once more of their limits are not 0 than the trie lists visits
-    pub joined-all : visitsIn (listing s (length b) most) < nonzero limits → calls s atStart b limits ≡ heard (listing s (length b) most)
-    joined-all h = joined-says (calls-end s (length b) limits atStart b refl start-good refl h .1)
-
-  -- whatever the limits, calls that come to an end say the same
-  pub joined-alike : (limits others : List ℕ) {e f : Ending} → calls s atStart b limits .ending ≡ some e → calls s atStart b others .ending ≡ some f
-      → calls s atStart b limits ≡ calls s atStart b others
-  joined-alike limits others p q = joined-says limits p ∙ sym (joined-says others q)
+  -- calls do come to an end once more of their limits are not 0 than the trie lists visits
+  pub joined-all : visitsIn (listing s (length b) most) < nonzero limits → calls s atStart b limits ≡ heard (listing s (length b) most)
+  joined-all h = joined-says (calls-end s (length b) limits atStart b (good-start s b) h .1)

@@ -6,8 +6,10 @@ pub mod Children
 pub mod Visits
 pub mod Calls
 pub mod Ahead
-pub mod Tells
-pub mod Joined
+pub mod Course
 pub mod Stops
+pub mod Fits
+pub mod Says
+pub mod Good
+pub mod Joined
 pub mod Unique
-pub mod Alike

@@ -2,7 +2,6 @@
 use mathlib.Core.Path.{_≡_, refl, ap}
 use Rattle.refusal.proofs.Numbered.{refusalOf, refusal-back}
 use Rattle.refusal.proofs.Unique.{one-each}
-use Rattle.refusal.specs.declared.Refusal.{Refusal}
 use Rattle.trie.specs.Call.{Answer, export, more, end, refused, Reply}
 use Rattle.trie.specs.Exported.{Target, regular, reexport, stubAndResolver, Exported, targetTold}
 use Rattle.trie.specs.Told.{answerTold, told}

@@ -2,7 +2,7 @@
 -- for any state. Once the walk has begun, the first `depth` elements of the state's arrays are those of the open nodes, the one on top last.
 use Prim.Native.Nat.{ℕ, zero, suc, _+_, _-_}
 use mathlib.Core.Bool.{true, false, cond}
-use mathlib.Core.List.{List, [], _∷_, _++_}
+use mathlib.Core.List.{List, _++_}
 use lib.Dec.{leb, eqb}
 use lib.ListN.{length, getD, set, take, drop, replicate}
 use Rattle.numbers.specs.Parts.{partOf}

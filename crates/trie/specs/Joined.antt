@@ -5,7 +5,7 @@ use mathlib.Core.Option.{Option, none, some}
 use lib.ListN.{take}
 use Rattle.trie.specs.Call.{Answer, export, more, end, refused, call}
 use Rattle.trie.specs.Exported.{Exported, exportTold}
-use Rattle.trie.specs.Listing.{Visit, Listing, ends, refuses, lists}
+use Rattle.trie.specs.Listing.{Listing, ends, refuses, lists}
 use Rattle.trie.specs.declared.TrieWalk.{TrieWalk}
 use Rattle.trie.specs.declared.node.Terminal.{Terminal}
 use Rattle.trie.specs.declared.node.Terminal.the-variants as terminal

@@ -10,7 +10,6 @@ use Rattle.trie.specs.Child.{thenNode, childAt}
 use Rattle.trie.specs.ExportsTrie.{nodeAt}
 use Rattle.trie.specs.declared.child.Child.{Child}
 use Rattle.trie.specs.declared.child.Child.the-variants.{Found, Refused}
-use Rattle.trie.specs.declared.node.Edge.{Edge}
 use Rattle.trie.specs.declared.node.Node.{Node}
 use Rattle.trie.specs.declared.node.Terminal.{Terminal}
 

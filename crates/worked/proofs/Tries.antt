@@ -1,7 +1,6 @@
 -- The small tries say what they are to say. Assumes nothing.
-use Prim.Native.Nat.{ℕ}
 use mathlib.Core.Path.{_≡_, refl}
-use mathlib.Core.List.{List, [], _∷_, _++_, map}
+use mathlib.Core.List.{[], _∷_, _++_, map}
 use lib.ListN.{replicate}
 use Rattle.numbers.specs.Digits.{fromDigits}
 use Rattle.numbers.specs.Leb128.{ulebAt}
@@ -13,7 +12,7 @@ use Rattle.trie.specs.Call.{atStart, put, visited, visitChild, onward, visitRoo
 use Rattle.trie.specs.Child.{thenEdge, thenNode, childAt}
 use Rattle.trie.specs.ExportsTrie.{regularAt, stubAt, reexportAt, exportAt, thenExport, countedAt, nodeAt, edgeAt}
 use Rattle.trie.specs.Frames.{most, topDown, any, outOfRange, stillOpen}
-use Rattle.trie.specs.Joined.{Joined, calls, exportsIn, visitsIn, endingOf, heard}
+use Rattle.trie.specs.Joined.{calls, exportsIn, visitsIn, endingOf, heard}
 use Rattle.trie.specs.Listing.{_then_, child, children, subtree, listing}
 use Rattle.worked.specs.Tries.{Sample, row, samples, rows}
 

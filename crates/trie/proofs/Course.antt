@@ -1,0 +1,162 @@
+-- The course of a call: what comes next in the trie, again and again, as far as the call goes. Every law of calls is proved by going along
+-- a course, and of nothing else is it shown that it holds for any limit. Assumes nothing.
+use Prim.Native.Nat.{ℕ, zero, suc, _+_, _-_}
+use mathlib.Core.Path.{_≡_, refl, sym, ap, _∙_, subst}
+use mathlib.Core.Bool.{Bool, true, false, cond}
+use mathlib.Core.List.{List}
+use borrow.Author.Tests.{eqb-true}
+use lib.Dec.{leb, eqb}
+use lib.ListN.{length, getD}
+use Rattle.numbers.specs.Parts.{partOf}
+use Rattle.refusal.specs.Numbers.{numberOf}
+use Rattle.refusal.specs.declared.Refusal.the-variants.{FaultyNode, TooManyOpenNodes, StateOutOfRange}
+use Rattle.trie.specs.Call.{marked, closed, onTop, passed, opened, put, export, more, end, refused, Reply, replied, visited, visitChild, childOf, onward, visitRoot, goOn, call}
+use Rattle.trie.specs.Exported.{exportTold}
+use Rattle.trie.specs.ExportsTrie.{nodeAt}
+use Rattle.trie.specs.Frames.{most, openNodes, outOfRange, stillOpen}
+use Rattle.trie.specs.declared.TrieWalk.{TrieWalk}
+use Rattle.trie.specs.declared.child.Child.{Child}
+use Rattle.trie.specs.declared.child.Child.the-variants.{Found, Refused}
+use Rattle.trie.specs.declared.export.Export.{Export}
+use Rattle.trie.specs.declared.node.NodeRead.{NodeRead}
+use Rattle.trie.specs.declared.node.NodeRead.the-variants as node
+use Rattle.trie.specs.declared.node.Terminal.{Terminal}
+use Rattle.trie.specs.declared.node.Terminal.the-variants as terminal
+
+-- ---- what comes next: nothing, a refusal, or a node, with the length of its name and what is left behind
+
+pub data Next : Type 0 where
+  over : Next
+  stopped : (number : ℕ) → Next
+  reached : (len : ℕ) → Terminal → TrieWalk → (buffer : List ℕ) → Next
+
+module _ (s : List ℕ) where
+  abbrev pub childNext : TrieWalk → List ℕ → Child → Next
+  childNext w b (Refused e) = stopped (numberOf e)
+  childNext w b (Found e n) =
+      cond (leb most (w .depth)) (stopped (numberOf TooManyOpenNodes))
+      (reached (onTop w (w .lengths) + e .length) (n .terminal)
+      (opened (w .depth) (n .place) (e .offset) (n .children) (onTop w (w .lengths) + e .length) (passed (e .next) w))
+      (put (partOf s (e .place) (e .length)) b (onTop w (w .lengths))))
+
+  abbrev pub rootNext : TrieWalk → List ℕ → NodeRead → Next
+  rootNext w b node.Fault = stopped (numberOf FaultyNode)
+  rootNext w b (node.Found n) = reached 0 (n .terminal) (opened 0 (n .place) 0 (n .children) 0 w) b
+
+  -- of a walk whose finished nodes are closed
+  abbrev pub openNext : TrieWalk → List ℕ → Next
+  openNext w b = cond (eqb (w .depth) 0) over (childNext w b (childOf s (length b) w))
+
+  unfoldable pub next : TrieWalk → List ℕ → Next
+  next w b = cond (w .begun) (openNext (closed w) b) (rootNext w b (nodeAt s 0))
+
+  pub next-open : (w : TrieWalk) (b : List ℕ) → w .begun ≡ true → next w b ≡ openNext (closed w) b
+  unfolding next
+  next-open w b y = ap (λ (c : Bool). cond c (openNext (closed w) b) (rootNext w b (nodeAt s 0))) y
+
+  pub next-root : (w : TrieWalk) (b : List ℕ) → w .begun ≡ false → next w b ≡ rootNext w b (nodeAt s 0)
+  unfolding next
+  next-root w b y = ap (λ (c : Bool). cond c (openNext (closed w) b) (rootNext w b (nodeAt s 0))) y
+
+  -- closing finished nodes changes nothing
+  still-by : (left : List ℕ) (d : ℕ) (t : Bool) → eqb (getD left d 0) 0 ≡ t → stillOpen left (stillOpen left d) ≡ stillOpen left d
+      → stillOpen left (cond t (stillOpen left d) (suc d)) ≡ cond t (stillOpen left d) (suc d)
+  still-by left d true e h = h
+  still-by left d false e h = unfold stillOpen in ap (λ (t : Bool). cond t (stillOpen left d) (suc d)) e
+
+  still-still : (left : List ℕ) (d : ℕ) → stillOpen left (stillOpen left d) ≡ stillOpen left d
+  unfolding stillOpen
+  still-still left zero = refl
+  still-still left (suc d) = still-by left d (eqb (getD left d 0) 0) refl (still-still left d)
+
+  pub next-closed : (w : TrieWalk) (b : List ℕ) → w .begun ≡ true → next (closed w) b ≡ next w b
+  next-closed w b y =
+      let e = still-still (w .left) (w .depth) in
+      let f : (d : ℕ) → TrieWalk = λ d. record { places = w .places; offsets = w .offsets; left = w .left; lengths = w .lengths; depth = d; begun = w .begun; ended = w .ended } in
+      next-open (closed w) b y ∙ (λ i. openNext (f (e i)) b) ∙ sym (next-open w b y)
+
+  -- ---- the course, from the walk w and the buffer b on: n nodes were visited before, and k more may be
+
+  pub data Course (given : TrieWalk) : (k n : ℕ) → TrieWalk → List ℕ → Reply × List ℕ → Type 0 where
+    ends : {k n : ℕ} {w : TrieWalk} {b : List ℕ} → next w b ≡ over → stillOpen (w .left) (w .depth) ≡ 0 → Course given k n w b (replied end (marked (closed w)) n b)
+    refuses : {k n : ℕ} {w : TrieWalk} {b : List ℕ} {x : ℕ} → next w b ≡ stopped x → Course given k n w b (replied (refused x) (marked given) n b)
+    waits : {n : ℕ} {w : TrieWalk} {b : List ℕ} → Course given 0 n w b (replied more w n b)  -- a limit of 0 closes nothing
+    limits : {n : ℕ} {w : TrieWalk} {b : List ℕ} → w .begun ≡ true → Course given 0 n w b (replied more (closed w) n b)
+    exports : {k n len : ℕ} {w v : TrieWalk} {b c : List ℕ} {x : Export} → next w b ≡ reached len (terminal.Export x) v c
+        → Course given (suc k) n w b (replied (export len (exportTold x)) v (n + 1) c)
+    visits : {k n len : ℕ} {w v : TrieWalk} {b c : List ℕ} {p : Reply × List ℕ} → next w b ≡ reached len terminal.NoExport v c → Course given k (n + 1) v c p
+        → Course given (suc k) n w b p
+
+  module _ (given : TrieWalk) where
+    abbrev Has : (k : ℕ) → ((n : ℕ) → TrieWalk → List ℕ → Reply × List ℕ) → Type 0
+    Has k on = (n : ℕ) (w : TrieWalk) (b : List ℕ) → w .begun ≡ true → Course given k n w b (on n w b)
+
+    module _ {k : ℕ} (on : (n : ℕ) → TrieWalk → List ℕ → Reply × List ℕ) (has : Has k on) (n : ℕ) (w : TrieWalk) (b : List ℕ) where
+      visit-course : (len : ℕ) (v : TrieWalk) (c : List ℕ) → v .begun ≡ true → (t : Terminal) → next w b ≡ reached len t v c → Course given (suc k) n w b (visited on len (n + 1) v c t)
+      unfolding visited
+      visit-course len v c y terminal.NoExport e = visits e (has (n + 1) v c y)
+      visit-course len v c y (terminal.Export x) e = exports e
+
+      child-course : (u : TrieWalk) (x : Child) → next w b ≡ childNext u b x → Course given (suc k) n w b (visitChild s on given n u b x)
+      unfolding visitChild
+      child-course u (Refused e) q = refuses q
+      child-course u (Found e x) q = by (leb most (u .depth)) q
+        where
+          by : (t : Bool)
+              → next w b ≡ cond t (stopped (numberOf TooManyOpenNodes)) (reached (onTop u (u .lengths) + e .length) (x .terminal) (opened (u .depth) (x .place) (e .offset) (x .children) (onTop u (u .lengths) + e .length) (passed (e .next) u)) (put (partOf s (e .place) (e .length)) b (onTop u (u .lengths))))
+              → Course given (suc k) n w b (cond t (replied (refused (numberOf TooManyOpenNodes)) (marked given) n b) (visited on (onTop u (u .lengths) + e .length) (n + 1) (opened (u .depth) (x .place) (e .offset) (x .children) (onTop u (u .lengths) + e .length) (passed (e .next) u)) (put (partOf s (e .place) (e .length)) b (onTop u (u .lengths))) (x .terminal)))
+          by true q = refuses q
+          by false q = visit-course (onTop u (u .lengths) + e .length) _ _ refl (x .terminal) q
+
+    onward-course : (k : ℕ) → Has k (onward s given k)
+    unfolding onward
+    onward-course zero n w b y = by (eqb (stillOpen (w .left) (w .depth)) 0) refl
+      where
+        by : (t : Bool) → eqb (stillOpen (w .left) (w .depth)) 0 ≡ t → Course given 0 n w b (cond t (replied end (marked (closed w)) n b) (replied more (closed w) n b))
+        by true e =
+            ends (next-open w b y ∙ ap (λ (t : Bool). cond t over (childNext (closed w) b (childOf s (length b) (closed w)))) e) (eqb-true (stillOpen (w .left) (w .depth)) 0 e)
+        by false e = limits y
+    onward-course (suc k) n w b y = by (onward-course k) (eqb (stillOpen (w .left) (w .depth)) 0) refl
+      where
+        by : Has k (onward s given k) → (t : Bool) → eqb (stillOpen (w .left) (w .depth)) 0 ≡ t
+            → Course given (suc k) n w b (cond t (replied end (marked (closed w)) n b) (visitChild s (onward s given k) given n (closed w) b (childOf s (length b) (closed w))))
+        by ih true e =
+            ends (next-open w b y ∙ ap (λ (t : Bool). cond t over (childNext (closed w) b (childOf s (length b) (closed w)))) e) (eqb-true (stillOpen (w .left) (w .depth)) 0 e)
+        by ih false e =
+            child-course (onward s given k) ih n w b (closed w) (childOf s (length b) (closed w))
+            (next-open w b y ∙ ap (λ (t : Bool). cond t over (childNext (closed w) b (childOf s (length b) (closed w)))) e)
+
+    root-course : (k : ℕ) (b : List ℕ) (x : NodeRead) → next given b ≡ rootNext given b x → Course given (suc k) 0 given b (visitRoot s given k b x)
+    unfolding visitRoot
+    root-course k b node.Fault q = refuses q
+    root-course k b (node.Found n) q = visit-course (onward s given k) (onward-course k) 0 given b 0 _ b refl (n .terminal) q
+
+  go-course : (limit : ℕ) (w : TrieWalk) (b : List ℕ) → Course w limit 0 w b (goOn s limit w b)
+  unfolding goOn
+  go-course zero w b = waits
+  go-course (suc k) w b = by (w .begun) refl
+    where
+      by : (c : Bool) → w .begun ≡ c → Course w (suc k) 0 w b (cond c (onward s w (suc k) 0 w b) (visitRoot s w k b (nodeAt s 0)))
+      by true y = onward-course w (suc k) 0 w b y
+      by false y = root-course w k b (nodeAt s 0) (next-root w b y)
+
+  -- ---- a call
+
+  -- the state is in range, for a buffer of this length
+  abbrev pub InRange : (room : ℕ) → TrieWalk → Type 0
+  InRange room w = outOfRange (w .places) (w .lengths) (openNodes (w .begun) (w .depth)) (length s) room ≡ false
+
+  module _ (limit : ℕ) (w : TrieWalk) (b : List ℕ) (range : InRange (length b) w) where
+    ranged : call s limit w b ≡ cond (w .ended) (replied end w 0 b) (goOn s limit w b)
+    unfolding call
+    ranged =
+        ap (λ (c : Bool). cond c (replied (refused (numberOf StateOutOfRange)) w 0 b) (cond (w .ended) (replied end w 0 b) (goOn s limit w b))) range
+
+    -- a walk that has ended says End, at any limit, and nothing changes
+    pub ended-stays : w .ended ≡ true → call s limit w b ≡ replied end w 0 b
+    ended-stays e = ranged ∙ ap (λ (c : Bool). cond c (replied end w 0 b) (goOn s limit w b)) e
+
+    -- one that has not goes its course
+    pub call-course : w .ended ≡ false → Course w limit 0 w b (call s limit w b)
+    call-course e =
+        subst (Course w limit 0 w b) (sym (ranged ∙ ap (λ (c : Bool). cond c (replied end w 0 b) (goOn s limit w b)) e)) (go-course limit w b)

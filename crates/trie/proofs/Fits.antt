@@ -1,0 +1,261 @@
+-- What comes next, case by case; and a state in range stays in range along a course. Assumes nothing.
+use Prim.Native.Nat.{ℕ, zero, suc, _+_, _-_, _≤_, _<_}
+use mathlib.Core.Path.{_≡_, refl, sym, ap, _∙_, subst}
+use mathlib.Core.Bool.{Bool, true, false, cond, true≢false, _||_}
+use mathlib.Core.List.{List}
+use native.Mathlib.Decide.{decLt, ℕ-discrete}
+use native.Mathlib.Omega.{arith}
+use borrow.Author.Tests.{eqb-true, eqb-false, leb-true, leb-false, ltb-false, le-ltb}
+use lib.Dec.{leb, eqb, ltb}
+use lib.ListN.{length, getD, set, List·getD-eq-default}
+use lib.Seq.{getD-set-same, getD-set-other, set-out}
+use Rattle.numbers.proofs.Laws.{part-length}
+use Rattle.numbers.specs.Parts.{partOf}
+use Rattle.refusal.specs.Numbers.{numberOf}
+use Rattle.refusal.specs.declared.Refusal.{Refusal}
+use Rattle.refusal.specs.declared.Refusal.the-variants.{FaultyNode, TooManyOpenNodes}
+use Rattle.trie.proofs.Ahead.{put-length}
+use Rattle.trie.proofs.Children.{EdgeIn, edge-in, node-in, Read, child-read}
+use Rattle.trie.proofs.Course.{Next, over, stopped, reached, childNext, rootNext, next, next-open, next-root, Course, ends, refuses, waits, limits, exports, visits, InRange}
+use Rattle.trie.proofs.Stops.{stops}
+use Rattle.trie.proofs.Visits.{still-at-most}
+use Rattle.trie.specs.Call.{closed, onTop, passed, opened, put, Reply, childOf}
+use Rattle.trie.specs.ExportsTrie.{nodeAt}
+use Rattle.trie.specs.Frames.{most, openNodes, topDown, any, outOfRange, stillOpen}
+use Rattle.trie.specs.declared.TrieWalk.{TrieWalk}
+use Rattle.trie.specs.declared.child.Child.{Child}
+use Rattle.trie.specs.declared.child.Child.the-variants.{Found, Refused}
+use Rattle.trie.specs.declared.node.Edge.{Edge}
+use Rattle.trie.specs.declared.node.Node.{Node}
+use Rattle.trie.specs.declared.node.NodeRead.{NodeRead}
+use Rattle.trie.specs.declared.node.NodeRead.the-variants as node
+
+-- ---- what is shown of each case holds of what comes next
+
+module _ (s : List ℕ) (w : TrieWalk) (b : List ℕ) where
+  -- the state and the buffer when a child is visited
+  abbrev pub childWalk : TrieWalk → Edge → Node → TrieWalk
+  childWalk u e n = opened (u .depth) (n .place) (e .offset) (n .children) (onTop u (u .lengths) + e .length) (passed (e .next) u)
+
+  abbrev pub childBuffer : TrieWalk → Edge → List ℕ
+  childBuffer u e = put (partOf s (e .place) (e .length)) b (onTop u (u .lengths))
+
+  pub record Cases (Q : Next → Type 0) : Type 0 where
+    pub done : w .begun ≡ true → stillOpen (w .left) (w .depth) ≡ 0 → Q over
+    pub bad : w .begun ≡ true → (stillOpen (w .left) (w .depth) ≡ 0 → ⊥) → (x : Refusal) → childOf s (length b) (closed w) ≡ Refused x → Q (stopped (numberOf x))
+    pub full : w .begun ≡ true → (stillOpen (w .left) (w .depth) ≡ 0 → ⊥) → (e : Edge) (n : Node) → childOf s (length b) (closed w) ≡ Found e n → most ≤ stillOpen (w .left) (w .depth)
+        → Q (stopped (numberOf TooManyOpenNodes))
+    pub child : w .begun ≡ true → (stillOpen (w .left) (w .depth) ≡ 0 → ⊥) → (e : Edge) (n : Node) → childOf s (length b) (closed w) ≡ Found e n → stillOpen (w .left) (w .depth) < most
+        → Q (reached (onTop (closed w) (w .lengths) + e .length) (n .terminal) (childWalk (closed w) e n) (childBuffer (closed w) e))
+    pub none : w .begun ≡ false → nodeAt s 0 ≡ node.Fault → Q (stopped (numberOf FaultyNode))
+    pub root : w .begun ≡ false → (n : Node) → nodeAt s 0 ≡ node.Found n → Q (reached 0 (n .terminal) (opened 0 (n .place) 0 (n .children) 0 w) b)
+
+  module _ (Q : Next → Type 0) (c : Cases Q) where
+    depth-by : w .begun ≡ true → (stillOpen (w .left) (w .depth) ≡ 0 → ⊥) → (e : Edge) (n : Node) → childOf s (length b) (closed w) ≡ Found e n
+        → (t : Bool) → leb most (stillOpen (w .left) (w .depth)) ≡ t
+        → Q (cond t (stopped (numberOf TooManyOpenNodes)) (reached (onTop (closed w) (w .lengths) + e .length) (n .terminal) (childWalk (closed w) e n) (childBuffer (closed w) e)))
+    depth-by y z e n f true q = c .full y z e n f (leb-true most (stillOpen (w .left) (w .depth)) q)
+    depth-by y z e n f false q = c .child y z e n f (leb-false most (stillOpen (w .left) (w .depth)) q)
+
+    child-by : w .begun ≡ true → (stillOpen (w .left) (w .depth) ≡ 0 → ⊥) → (x : Child) → childOf s (length b) (closed w) ≡ x → Q (childNext s (closed w) b x)
+    child-by y z (Refused x) f = c .bad y z x f
+    child-by y z (Found e n) f = depth-by y z e n f (leb most (stillOpen (w .left) (w .depth))) refl
+
+    open-by : w .begun ≡ true → (t : Bool) → eqb (stillOpen (w .left) (w .depth)) 0 ≡ t → Q (cond t over (childNext s (closed w) b (childOf s (length b) (closed w))))
+    open-by y true e = c .done y (eqb-true (stillOpen (w .left) (w .depth)) 0 e)
+    open-by y false e = child-by y (eqb-false (stillOpen (w .left) (w .depth)) 0 e) (childOf s (length b) (closed w)) refl
+
+    root-by : w .begun ≡ false → (x : NodeRead) → nodeAt s 0 ≡ x → Q (rootNext s w b x)
+    root-by y node.Fault e = c .none y e
+    root-by y (node.Found n) e = c .root y n e
+
+    pub next-by : Q (next s w b)
+    next-by = by (w .begun) refl
+      where
+        by : (t : Bool) → w .begun ≡ t → Q (next s w b)
+        by true y = subst Q (sym (next-open s w b y)) (open-by y (eqb (stillOpen (w .left) (w .depth)) 0) refl)
+        by false y = subst Q (sym (next-root s w b y)) (root-by y (nodeAt s 0) refl)
+
+-- ---- what every visit keeps, every call keeps that goes on
+
+abbrev pub IfReached : (TrieWalk → List ℕ → Type 0) → Next → Type 0
+IfReached P over = Unit {0}
+IfReached P (stopped number) = Unit {0}
+IfReached P (reached len t v c) = P v c
+
+module _ (s : List ℕ) (P : TrieWalk → List ℕ → Type 0) (visit-keeps : (w : TrieWalk) (b : List ℕ) → P w b → IfReached P (next s w b))
+    (close-keeps : (w : TrieWalk) (b : List ℕ) → P w b → w .begun ≡ true → P (closed w) b) where
+  pub course-keeps : {given : TrieWalk} {k n : ℕ} {w : TrieWalk} {b : List ℕ} {p : Reply × List ℕ} → Course s given k n w b p → P w b → stops (p .0 .answer) ≡ false → P (p .0 .walk) (p .1)
+  course-keeps (ends e z) h q = absurd (true≢false q)
+  course-keeps (refuses e) h q = absurd (true≢false q)
+  course-keeps waits h q = h
+  course-keeps (limits {w = w} {b = b} y) h q = close-keeps w b h y
+  course-keeps (exports {w = w} {b = b} e) h q = subst (IfReached P) e (visit-keeps w b h)
+  course-keeps (visits {w = w} {b = b} e c) h q = course-keeps c (subst (IfReached P) e (visit-keeps w b h)) q
+
+-- ---- a state in range, element by element
+
+pub record Fit (bytes room : ℕ) (w : TrieWalk) : Type 0 where
+  pub few : openNodes (w .begun) (w .depth) ≤ 256
+  pub places : (i : ℕ) → i < openNodes (w .begun) (w .depth) → getD (w .places) i 0 ≤ bytes
+  pub lengths : (i : ℕ) → i < openNodes (w .begun) (w .depth) → getD (w .lengths) i 0 ≤ room
+
+any-none : (p : ℕ → Bool) (xs : List ℕ) (d : ℕ) → ((i : ℕ) → i < d → p (getD xs i 0) ≡ false) → any p (topDown xs d) ≡ false
+unfolding any topDown
+any-none p xs zero h = refl
+any-none p xs (suc d) h = rw (h d (omega arith)) (any-none p xs d (λ i l. h i (omega arith)))
+
+parts : (x y : Bool) → x || y ≡ false → (x ≡ false) × (y ≡ false)
+parts true y e = absurd (true≢false e)
+parts false y e = (refl, e)
+
+all-not : (p : ℕ → Bool) (xs : List ℕ) (d : ℕ) → any p (topDown xs d) ≡ false → (i : ℕ) → i < d → p (getD xs i 0) ≡ false
+unfolding any topDown
+all-not p xs zero e i l = absurd (omega arith)
+all-not p xs (suc d) e i l =
+    let h = parts (p (getD xs d 0)) (any p (topDown xs d)) e in
+    elim (decLt i d) [
+      | yes k ↦ all-not p xs d (h .1) i k
+      | no k ↦ let q : i ≡ d = omega arith in rw q (h .0)
+    ]
+
+pub fit : (s : List ℕ) (room : ℕ) (w : TrieWalk) → InRange s room w → Fit (length s) room w
+unfolding outOfRange
+fit s room w e =
+    let bytes = length s in
+    let d = openNodes (w .begun) (w .depth) in
+    let h = parts (ltb most d) (any (λ y. ltb bytes y) (topDown (w .places) d) || any (λ y. ltb room y) (topDown (w .lengths) d)) e in
+    let k = parts (any (λ y. ltb bytes y) (topDown (w .places) d)) (any (λ y. ltb room y) (topDown (w .lengths) d)) (h .1) in
+    record {
+      few = ltb-false most d (h .0);
+      places = λ i l. ltb-false bytes (getD (w .places) i 0) (all-not (λ y. ltb bytes y) (w .places) d (k .0) i l);
+      lengths = λ i l. ltb-false room (getD (w .lengths) i 0) (all-not (λ y. ltb room y) (w .lengths) d (k .1) i l);
+    }
+
+pub ranged : (s : List ℕ) (room : ℕ) (w : TrieWalk) → Fit (length s) room w → InRange s room w
+unfolding outOfRange
+ranged s room w f =
+    let bytes = length s in
+    let d = openNodes (w .begun) (w .depth) in
+    rw (le-ltb most d (f .few), any-none (λ y. ltb bytes y) (w .places) d (λ i l. le-ltb bytes (getD (w .places) i 0) (f .places i l)))
+    (any-none (λ y. ltb room y) (w .lengths) d (λ i l. le-ltb room (getD (w .lengths) i 0) (f .lengths i l)))
+
+-- an element is set to what is small enough
+module _ (xs : List ℕ) (i v bound : ℕ) (h : v ≤ bound) where
+  set-new : getD (set xs i v) i 0 ≤ bound
+  set-new =
+      elim (decLt i (length xs)) [
+        | yes l ↦ rw (getD-set-same xs i v 0 l) h
+        | no l ↦ let e = ap (λ (ys : List ℕ). getD ys i 0) (set-out xs i v (omega arith)) ∙ List·getD-eq-default xs 0 {n = i} (omega arith) in omega arith
+      ]
+
+  set-old : (m : ℕ) → getD xs m 0 ≤ bound → getD (set xs i v) m 0 ≤ bound
+  set-old m k =
+      elim (ℕ-discrete m i) [
+        | yes e ↦ rw e set-new
+        | no e ↦ rw (getD-set-other xs i m v 0 e) k
+      ]
+
+-- ---- it stays so
+
+pub record Sound (s : List ℕ) (room : ℕ) (w : TrieWalk) (b : List ℕ) : Type 0 where
+  pub long : length b ≡ room
+  pub going : w .ended ≡ false
+  pub fit : Fit (length s) room w
+
+module _ (s : List ℕ) (room : ℕ) (w : TrieWalk) (b : List ℕ) (h : Sound s room w b) where
+  module _ (y : w .begun ≡ true) where
+    abbrev d : ℕ
+    d = stillOpen (w .left) (w .depth)
+
+    count : openNodes (w .begun) (w .depth) ≡ w .depth
+    count = ap (λ (c : Bool). openNodes c (w .depth)) y
+
+    count-closed : openNodes (w .begun) (stillOpen (w .left) (w .depth)) ≡ stillOpen (w .left) (w .depth)
+    count-closed = ap (λ (c : Bool). openNodes c (stillOpen (w .left) (w .depth))) y
+
+    pub sound-closed : Sound s room (closed w) b
+    sound-closed =
+        let l = still-at-most (w .left) (w .depth) in
+        record {
+          long = h .long;
+          going = h .going;
+          fit = record {
+            few = omega (arith, count, count-closed, l, h .fit .few);
+            places = λ i k. h .fit .places i (omega (arith, count, count-closed, l));
+            lengths = λ i k. h .fit .lengths i (omega (arith, count, count-closed, l));
+          };
+        }
+
+    module _ (z : stillOpen (w .left) (w .depth) ≡ 0 → ⊥) (e : Edge) (n : Node) (g : childOf s (length b) (closed w) ≡ Found e n) (l : stillOpen (w .left) (w .depth) < most) where
+      abbrev kept : ℕ
+      kept = onTop (closed w) (w .lengths)
+
+      pub read : Read s (length b) (topDown (w .offsets) d) kept (onTop (closed w) (w .places)) e n
+      read = child-read s (length b) (topDown (w .offsets) d) kept (onTop (closed w) (w .places)) refl g
+
+      pub within : EdgeIn s e
+      within = edge-in s (onTop (closed w) (w .places)) (read .edge)
+
+      pub place-in : n .place ≤ length s
+      place-in = node-in s (e .offset) (read .node)
+
+      name-fits : kept + e .length ≤ room
+      name-fits = omega (arith, read .fits, h .long)
+
+      at-or-below : (P : ℕ → Type 0) → P d → ((i : ℕ) → i < d → P i) → (i : ℕ) → i < d + 1 → P i
+      at-or-below P p q i k =
+          elim (decLt i d) [
+            | yes m ↦ q i m
+            | no m ↦ let j : i ≡ d = omega arith in subst P (sym j) p
+          ]
+
+      pub buffer-long : length (childBuffer s w b (closed w) e) ≡ length b
+      buffer-long =
+          let p = part-length s (e .place) (e .length) (within .inside) in
+          put-length (partOf s (e .place) (e .length)) b kept (omega (arith, p, read .fits))
+
+      sound-child : Sound s room (childWalk s w b (closed w) e n) (childBuffer s w b (closed w) e)
+      sound-child =
+          let f = sound-closed .fit in
+          record {
+            long = buffer-long ∙ h .long;
+            going = h .going;
+            fit = record {
+              few = omega arith;
+              places = at-or-below (λ i. getD (set (set (w .places) (d - 1) (e .next)) d (n .place)) i 0 ≤ length s)
+                  (set-new (set (w .places) (d - 1) (e .next)) d (n .place) (length s) place-in)
+                  (λ i k. set-old (set (w .places) (d - 1) (e .next)) d (n .place) (length s) place-in i
+                  (set-old (w .places) (d - 1) (e .next) (length s) (within .next) i (f .places i (omega (arith, count-closed)))));
+              lengths = at-or-below (λ i. getD (set (w .lengths) d (kept + e .length)) i 0 ≤ room)
+                  (set-new (w .lengths) d (kept + e .length) room name-fits)
+                  (λ i k. set-old (w .lengths) d (kept + e .length) room name-fits i (f .lengths i (omega (arith, count-closed))));
+            };
+          }
+
+  sound-root : (n : Node) → nodeAt s 0 ≡ node.Found n → Sound s room (opened 0 (n .place) 0 (n .children) 0 w) b
+  sound-root n e =
+      record {
+        long = h .long;
+        going = h .going;
+        fit = record {
+          few = omega arith;
+          places = λ i l. let q : i ≡ 0 = omega arith in rw q (set-new (w .places) 0 (n .place) (length s) (node-in s 0 e));
+          lengths = λ i l. let q : i ≡ 0 = omega arith in rw q (set-new (w .lengths) 0 0 room (omega arith));
+        };
+      }
+
+  pub sound-next : IfReached (Sound s room) (next s w b)
+  sound-next =
+      next-by s w b (IfReached (Sound s room))
+      (record {
+        done = λ y z. tt;
+        bad = λ y z x f. tt;
+        full = λ y z e n f l. tt;
+        child = sound-child;
+        none = λ y e. tt;
+        root = λ y n e. sound-root n e;
+      })
+
+  pub sound-ranged : InRange s (length b) w
+  sound-ranged = subst (λ (m : ℕ). InRange s m w) (sym (h .long)) (ranged s room w (h .fit))
