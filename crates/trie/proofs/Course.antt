@@ -1,5 +1,5 @@
--- The course of a call: what comes next in the trie, again and again, as far as the call goes. Every law of calls is proved by going along
--- a course, and of nothing else is it shown that it holds for any limit. Assumes nothing.
+-- The course of a call: what comes next in the trie, again and again, as far as the call goes. This is the one file that goes by the limit;
+-- every law of calls goes along a course. Assumes nothing.
 use Prim.Native.Nat.{ℕ, zero, suc, _+_, _-_}
 use mathlib.Core.Path.{_≡_, refl, sym, ap, _∙_, subst}
 use mathlib.Core.Bool.{Bool, true, false, cond}
