@@ -272,7 +272,7 @@ module _ (s : List ℕ) (room : ℕ) where
               lengths = length-set (w .lengths) (suc d) (kept + x .length) ∙ sized .lengths;
             }
 
-        pub length-after : length buffer ≡ length b
+        length-after : length buffer ≡ length b
         length-after = put-length (partOf s (x .place) (x .length)) b kept bytes-fit
 
         pub nested-after : Nested after (length buffer) (suc (suc d))

@@ -7,6 +7,8 @@ use native.Mathlib.Omega.{arith}
 use borrow.Author.Tests.{ltb-false}
 use lib.Dec.{ltb}
 use lib.ListN.{length}
+use Rattle.trie.proofs.Course.{ended-stays, goes-on}
+use Rattle.trie.proofs.Searches.{neither}
 use Rattle.refusal.specs.Numbers.{numberOf}
 use Rattle.refusal.specs.declared.Refusal.the-variants.{FaultyNode, StateOutOfRange}
 use Rattle.trie.specs.Call.{marked, opened, refused, end, Reply, replied, visited, onward, visitRoot, goOn, call}
@@ -56,30 +58,26 @@ pub range-fits : (places lengths : List ℕ) (d bytes room : ℕ) (begun : Bool)
 unfolding outOfRange
 range-fits places lengths d bytes room begun depth e q f g =
     let m : d ≡ depth = e ∙ ap (λ (c : Bool). openNodes c depth) g in
-    let h : d ≤ 256 = ltb-false 256 d (not-first (ltb 256 d) (oneAbove bytes (topDown places d) || oneAbove room (topDown lengths d)) (sym q ∙ f)) in
+    let h : d ≤ 256 = ltb-false 256 d (neither (ltb 256 d) (oneAbove bytes (topDown places d) || oneAbove room (topDown lengths d)) (sym q ∙ f) .0) in
     omega arith
-  where
-    not-first : (x y : Bool) → x || y ≡ false → x ≡ false
-    not-first true y g = g
-    not-first false y g = refl
 
 module _ (s : List ℕ) (limit : ℕ) (w : TrieWalk) (b : List ℕ) {d : ℕ} (e : d ≡ openNodes (w .begun) (w .depth)) {t : Bool} (q : t ≡ outOfRange (w .places) (w .lengths) d (length s) (length b)) where
-  ranged : {c : Bool} → t ≡ c → cond c (replied (refused (numberOf StateOutOfRange)) w 0 b) (cond (w .ended) (replied end w 0 b) (goOn s limit w b)) ≡ call s limit w b
-  unfolding call
-  ranged f =
-      ap (λ (c : Bool). cond c (replied (refused (numberOf StateOutOfRange)) w 0 b) (cond (w .ended) (replied end w 0 b) (goOn s limit w b)))
-      (sym f ∙ q ∙ ap (λ (m : ℕ). outOfRange (w .places) (w .lengths) m (length s) (length b)) e)
+  range : {c : Bool} → t ≡ c → outOfRange (w .places) (w .lengths) (openNodes (w .begun) (w .depth)) (length s) (length b) ≡ c
+  range f = ap (λ (m : ℕ). outOfRange (w .places) (w .lengths) m (length s) (length b)) (sym e) ∙ sym q ∙ f
 
   pub is-out : t ≡ true → {r : TrieStep} → r ≡ record { answer = answer.Refused StateOutOfRange; walk = w; visits = 0 } → (told r, b) ≡ call s limit w b
-  is-out f p = (λ i. (told (p i), b)) ∙ ranged f
+  unfolding call
+  is-out f p =
+      (λ i. (told (p i), b))
+      ∙ ap (λ (c : Bool). cond c (replied (refused (numberOf StateOutOfRange)) w 0 b) (cond (w .ended) (replied end w 0 b) (goOn s limit w b))) (sym (range f))
 
   module _ (f : t ≡ false) where
     pub is-ended : w .ended ≡ true → {r : TrieStep} → r ≡ record { answer = answer.End; walk = w; visits = 0 } → (told r, b) ≡ call s limit w b
-    is-ended g p = (λ i. (told (p i), b)) ∙ ap (λ (c : Bool). cond c (replied end w 0 b) (goOn s limit w b)) (sym g) ∙ ranged f
+    is-ended g p = (λ i. (told (p i), b)) ∙ sym (ended-stays s limit w b (range f) g)
 
     module _ (g : w .ended ≡ false) where
       goes : goOn s limit w b ≡ call s limit w b
-      goes = ap (λ (c : Bool). cond c (replied end w 0 b) (goOn s limit w b)) (sym g) ∙ ranged f
+      goes = sym (goes-on s limit w b (range f) g)
 
       pub is-none : limit ≡ 0 → {r : TrieStep} → r ≡ record { answer = answer.More; walk = w; visits = 0 } → (told r, b) ≡ call s limit w b
       unfolding goOn

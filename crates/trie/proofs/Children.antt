@@ -88,14 +88,14 @@ module _ (s : List ℕ) where
 
 -- ---- a child that is found
 
-pub record Read (s : List ℕ) (room : ℕ) (opened : List ℕ) (kept place : ℕ) (e : Edge) (n : Node) : Type 0 where
+pub record Read (s : List ℕ) (room : ℕ) (ancestors : List ℕ) (kept place : ℕ) (e : Edge) (n : Node) : Type 0 where
   pub edge : edgeAt s place ≡ edge.Found e
   pub fits : kept + e .length ≤ room
   pub node : nodeAt s (e .offset) ≡ node.Found n
 
-module _ (s : List ℕ) (room : ℕ) (opened : List ℕ) (kept place : ℕ) where
+module _ (s : List ℕ) (room : ℕ) (ancestors : List ℕ) (kept place : ℕ) where
   abbrev IfRead : Child → Type 0
-  IfRead (Found e n) = Read s room opened kept place e n
+  IfRead (Found e n) = Read s room ancestors kept place e n
   IfRead (Refused x) = Unit {0}
 
   node-step : (e : Edge) → edgeAt s place ≡ edge.Found e → kept + e .length ≤ room → (x : NodeRead) → nodeAt s (e .offset) ≡ x
@@ -110,14 +110,14 @@ module _ (s : List ℕ) (room : ℕ) (opened : List ℕ) (kept place : ℕ) wher
   tests e f false true g = tt
   tests e f false false g = node-step e f (ltb-false room (kept + e .length) g) (nodeAt s (e .offset)) refl
 
-  child-by : IfRead (childAt s room opened kept place)
+  child-by : IfRead (childAt s room ancestors kept place)
   unfolding childAt thenEdge
   child-by = by (edgeAt s place) refl
     where
       by : (x : EdgeRead) → edgeAt s place ≡ x
-          → IfRead (thenEdge x (Refused FaultyNode) (λ e. cond (ltb room (kept + e .length)) (Refused NameTooLong) (cond (isOneOf (e .offset) opened) (Refused ChildIsOpen) (thenNode (nodeAt s (e .offset)) (Refused FaultyNode) (λ n. Found e n)))))
-      by (edge.Found e) f = tests e f (ltb room (kept + e .length)) (isOneOf (e .offset) opened) refl
+          → IfRead (thenEdge x (Refused FaultyNode) (λ e. cond (ltb room (kept + e .length)) (Refused NameTooLong) (cond (isOneOf (e .offset) ancestors) (Refused ChildIsOpen) (thenNode (nodeAt s (e .offset)) (Refused FaultyNode) (λ n. Found e n)))))
+      by (edge.Found e) f = tests e f (ltb room (kept + e .length)) (isOneOf (e .offset) ancestors) refl
       by edge.Fault f = tt
 
-  pub child-read : {r : Child} {e : Edge} {n : Node} → r ≡ childAt s room opened kept place → r ≡ Found e n → Read s room opened kept place e n
+  pub child-read : {r : Child} {e : Edge} {n : Node} → r ≡ childAt s room ancestors kept place → r ≡ Found e n → Read s room ancestors kept place e n
   child-read f g = subst IfRead (sym f ∙ g) child-by

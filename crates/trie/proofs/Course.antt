@@ -7,10 +7,9 @@ use mathlib.Core.List.{List}
 use borrow.Author.Tests.{eqb-true}
 use lib.Dec.{leb, eqb}
 use lib.ListN.{length, getD}
-use Rattle.numbers.specs.Parts.{partOf}
 use Rattle.refusal.specs.Numbers.{numberOf}
 use Rattle.refusal.specs.declared.Refusal.the-variants.{FaultyNode, TooManyOpenNodes, StateOutOfRange}
-use Rattle.trie.specs.Call.{marked, closed, onTop, passed, opened, put, export, more, end, refused, Reply, replied, visited, visitChild, childOf, onward, visitRoot, goOn, call}
+use Rattle.trie.specs.Call.{atDepth, marked, closed, opened, childOf, childName, childOpened, edgePut, export, more, end, refused, Reply, replied, visited, visitChild, onward, visitRoot, goOn, call}
 use Rattle.trie.specs.Exported.{exportTold}
 use Rattle.trie.specs.ExportsTrie.{nodeAt}
 use Rattle.trie.specs.Frames.{most, openNodes, outOfRange, stillOpen}
@@ -35,9 +34,7 @@ module _ (s : List ℕ) where
   childNext w b (Refused e) = stopped (numberOf e)
   childNext w b (Found e n) =
       cond (leb most (w .depth)) (stopped (numberOf TooManyOpenNodes))
-      (reached (onTop w (w .lengths) + e .length) (n .terminal)
-      (opened (w .depth) (n .place) (e .offset) (n .children) (onTop w (w .lengths) + e .length) (passed (e .next) w))
-      (put (partOf s (e .place) (e .length)) b (onTop w (w .lengths))))
+      (reached (childName w e) (n .terminal) (childOpened w e n) (edgePut s w e b))
 
   abbrev pub rootNext : TrieWalk → List ℕ → NodeRead → Next
   rootNext w b node.Fault = stopped (numberOf FaultyNode)
@@ -72,8 +69,7 @@ module _ (s : List ℕ) where
   pub next-closed : (w : TrieWalk) (b : List ℕ) → w .begun ≡ true → next (closed w) b ≡ next w b
   next-closed w b y =
       let e = still-still (w .left) (w .depth) in
-      let f : (d : ℕ) → TrieWalk = λ d. record { places = w .places; offsets = w .offsets; left = w .left; lengths = w .lengths; depth = d; begun = w .begun; ended = w .ended } in
-      next-open (closed w) b y ∙ (λ i. openNext (f (e i)) b) ∙ sym (next-open w b y)
+      next-open (closed w) b y ∙ (λ i. openNext (atDepth (e i) w) b) ∙ sym (next-open w b y)
 
   -- ---- the course, from the walk w and the buffer b on: n nodes were visited before, and k more may be
 
@@ -103,10 +99,10 @@ module _ (s : List ℕ) where
       child-course u (Found e x) q = by (leb most (u .depth)) q
         where
           by : (t : Bool)
-              → next w b ≡ cond t (stopped (numberOf TooManyOpenNodes)) (reached (onTop u (u .lengths) + e .length) (x .terminal) (opened (u .depth) (x .place) (e .offset) (x .children) (onTop u (u .lengths) + e .length) (passed (e .next) u)) (put (partOf s (e .place) (e .length)) b (onTop u (u .lengths))))
-              → Course given (suc k) n w b (cond t (replied (refused (numberOf TooManyOpenNodes)) (marked given) n b) (visited on (onTop u (u .lengths) + e .length) (n + 1) (opened (u .depth) (x .place) (e .offset) (x .children) (onTop u (u .lengths) + e .length) (passed (e .next) u)) (put (partOf s (e .place) (e .length)) b (onTop u (u .lengths))) (x .terminal)))
+              → next w b ≡ cond t (stopped (numberOf TooManyOpenNodes)) (reached (childName u e) (x .terminal) (childOpened u e x) (edgePut s u e b))
+              → Course given (suc k) n w b (cond t (replied (refused (numberOf TooManyOpenNodes)) (marked given) n b) (visited on (childName u e) (n + 1) (childOpened u e x) (edgePut s u e b) (x .terminal)))
           by true q = refuses q
-          by false q = visit-course (onTop u (u .lengths) + e .length) _ _ refl (x .terminal) q
+          by false q = visit-course (childName u e) _ _ refl (x .terminal) q
 
     onward-course : (k : ℕ) → Has k (onward s given k)
     unfolding onward
@@ -156,7 +152,9 @@ module _ (s : List ℕ) where
     pub ended-stays : w .ended ≡ true → call s limit w b ≡ replied end w 0 b
     ended-stays e = ranged ∙ ap (λ (c : Bool). cond c (replied end w 0 b) (goOn s limit w b)) e
 
+    pub goes-on : w .ended ≡ false → call s limit w b ≡ goOn s limit w b
+    goes-on e = ranged ∙ ap (λ (c : Bool). cond c (replied end w 0 b) (goOn s limit w b)) e
+
     -- one that has not goes its course
     pub call-course : w .ended ≡ false → Course w limit 0 w b (call s limit w b)
-    call-course e =
-        subst (Course w limit 0 w b) (sym (ranged ∙ ap (λ (c : Bool). cond c (replied end w 0 b) (goOn s limit w b)) e)) (go-course limit w b)
+    call-course e = subst (Course w limit 0 w b) (sym (goes-on e)) (go-course limit w b)

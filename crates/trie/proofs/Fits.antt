@@ -17,9 +17,10 @@ use Rattle.refusal.specs.declared.Refusal.the-variants.{FaultyNode, TooManyOpen
 use Rattle.trie.proofs.Ahead.{put-length}
 use Rattle.trie.proofs.Children.{EdgeIn, edge-in, node-in, Read, child-read}
 use Rattle.trie.proofs.Course.{Next, over, stopped, reached, childNext, rootNext, next, next-open, next-root, Course, ends, refuses, waits, limits, exports, visits, InRange}
+use Rattle.trie.proofs.Searches.{neither}
 use Rattle.trie.proofs.Stops.{stops}
 use Rattle.trie.proofs.Visits.{still-at-most}
-use Rattle.trie.specs.Call.{closed, onTop, passed, opened, put, Reply, childOf}
+use Rattle.trie.specs.Call.{closed, onTop, opened, childOf, childName, childOpened, edgePut, Reply}
 use Rattle.trie.specs.ExportsTrie.{nodeAt}
 use Rattle.trie.specs.Frames.{most, openNodes, topDown, any, outOfRange, stillOpen}
 use Rattle.trie.specs.declared.TrieWalk.{TrieWalk}
@@ -33,27 +34,20 @@ use Rattle.trie.specs.declared.node.NodeRead.the-variants as node
 -- ---- what is shown of each case holds of what comes next
 
 module _ (s : List ℕ) (w : TrieWalk) (b : List ℕ) where
-  -- the state and the buffer when a child is visited
-  abbrev pub childWalk : TrieWalk → Edge → Node → TrieWalk
-  childWalk u e n = opened (u .depth) (n .place) (e .offset) (n .children) (onTop u (u .lengths) + e .length) (passed (e .next) u)
-
-  abbrev pub childBuffer : TrieWalk → Edge → List ℕ
-  childBuffer u e = put (partOf s (e .place) (e .length)) b (onTop u (u .lengths))
-
   pub record Cases (Q : Next → Type 0) : Type 0 where
     pub done : w .begun ≡ true → stillOpen (w .left) (w .depth) ≡ 0 → Q over
     pub bad : w .begun ≡ true → (stillOpen (w .left) (w .depth) ≡ 0 → ⊥) → (x : Refusal) → childOf s (length b) (closed w) ≡ Refused x → Q (stopped (numberOf x))
     pub full : w .begun ≡ true → (stillOpen (w .left) (w .depth) ≡ 0 → ⊥) → (e : Edge) (n : Node) → childOf s (length b) (closed w) ≡ Found e n → most ≤ stillOpen (w .left) (w .depth)
         → Q (stopped (numberOf TooManyOpenNodes))
     pub child : w .begun ≡ true → (stillOpen (w .left) (w .depth) ≡ 0 → ⊥) → (e : Edge) (n : Node) → childOf s (length b) (closed w) ≡ Found e n → stillOpen (w .left) (w .depth) < most
-        → Q (reached (onTop (closed w) (w .lengths) + e .length) (n .terminal) (childWalk (closed w) e n) (childBuffer (closed w) e))
+        → Q (reached (childName (closed w) e) (n .terminal) (childOpened (closed w) e n) (edgePut s (closed w) e b))
     pub none : w .begun ≡ false → nodeAt s 0 ≡ node.Fault → Q (stopped (numberOf FaultyNode))
     pub root : w .begun ≡ false → (n : Node) → nodeAt s 0 ≡ node.Found n → Q (reached 0 (n .terminal) (opened 0 (n .place) 0 (n .children) 0 w) b)
 
   module _ (Q : Next → Type 0) (c : Cases Q) where
     depth-by : w .begun ≡ true → (stillOpen (w .left) (w .depth) ≡ 0 → ⊥) → (e : Edge) (n : Node) → childOf s (length b) (closed w) ≡ Found e n
         → (t : Bool) → leb most (stillOpen (w .left) (w .depth)) ≡ t
-        → Q (cond t (stopped (numberOf TooManyOpenNodes)) (reached (onTop (closed w) (w .lengths) + e .length) (n .terminal) (childWalk (closed w) e n) (childBuffer (closed w) e)))
+        → Q (cond t (stopped (numberOf TooManyOpenNodes)) (reached (childName (closed w) e) (n .terminal) (childOpened (closed w) e n) (edgePut s (closed w) e b)))
     depth-by y z e n f true q = c .full y z e n f (leb-true most (stillOpen (w .left) (w .depth)) q)
     depth-by y z e n f false q = c .child y z e n f (leb-false most (stillOpen (w .left) (w .depth)) q)
 
@@ -105,15 +99,11 @@ unfolding any topDown
 any-none p xs zero h = refl
 any-none p xs (suc d) h = rw (h d (omega arith)) (any-none p xs d (λ i l. h i (omega arith)))
 
-parts : (x y : Bool) → x || y ≡ false → (x ≡ false) × (y ≡ false)
-parts true y e = absurd (true≢false e)
-parts false y e = (refl, e)
-
 all-not : (p : ℕ → Bool) (xs : List ℕ) (d : ℕ) → any p (topDown xs d) ≡ false → (i : ℕ) → i < d → p (getD xs i 0) ≡ false
 unfolding any topDown
 all-not p xs zero e i l = absurd (omega arith)
 all-not p xs (suc d) e i l =
-    let h = parts (p (getD xs d 0)) (any p (topDown xs d)) e in
+    let h = neither (p (getD xs d 0)) (any p (topDown xs d)) e in
     elim (decLt i d) [
       | yes k ↦ all-not p xs d (h .1) i k
       | no k ↦ let q : i ≡ d = omega arith in rw q (h .0)
@@ -124,8 +114,8 @@ unfolding outOfRange
 fit s room w e =
     let bytes = length s in
     let d = openNodes (w .begun) (w .depth) in
-    let h = parts (ltb most d) (any (λ y. ltb bytes y) (topDown (w .places) d) || any (λ y. ltb room y) (topDown (w .lengths) d)) e in
-    let k = parts (any (λ y. ltb bytes y) (topDown (w .places) d)) (any (λ y. ltb room y) (topDown (w .lengths) d)) (h .1) in
+    let h = neither (ltb most d) (any (λ y. ltb bytes y) (topDown (w .places) d) || any (λ y. ltb room y) (topDown (w .lengths) d)) e in
+    let k = neither (any (λ y. ltb bytes y) (topDown (w .places) d)) (any (λ y. ltb room y) (topDown (w .lengths) d)) (h .1) in
     record {
       few = ltb-false most d (h .0);
       places = λ i l. ltb-false bytes (getD (w .places) i 0) (all-not (λ y. ltb bytes y) (w .places) d (k .0) i l);
@@ -200,7 +190,7 @@ module _ (s : List ℕ) (room : ℕ) (w : TrieWalk) (b : List ℕ) (h : Sound s 
       pub place-in : n .place ≤ length s
       place-in = node-in s (e .offset) (read .node)
 
-      name-fits : kept + e .length ≤ room
+      name-fits : childName (closed w) e ≤ room
       name-fits = omega (arith, read .fits, h .long)
 
       at-or-below : (P : ℕ → Type 0) → P d → ((i : ℕ) → i < d → P i) → (i : ℕ) → i < d + 1 → P i
@@ -210,12 +200,12 @@ module _ (s : List ℕ) (room : ℕ) (w : TrieWalk) (b : List ℕ) (h : Sound s 
             | no m ↦ let j : i ≡ d = omega arith in subst P (sym j) p
           ]
 
-      pub buffer-long : length (childBuffer s w b (closed w) e) ≡ length b
+      pub buffer-long : length (edgePut s (closed w) e b) ≡ length b
       buffer-long =
           let p = part-length s (e .place) (e .length) (within .inside) in
           put-length (partOf s (e .place) (e .length)) b kept (omega (arith, p, read .fits))
 
-      sound-child : Sound s room (childWalk s w b (closed w) e n) (childBuffer s w b (closed w) e)
+      sound-child : Sound s room (childOpened (closed w) e n) (edgePut s (closed w) e b)
       sound-child =
           let f = sound-closed .fit in
           record {
@@ -227,9 +217,9 @@ module _ (s : List ℕ) (room : ℕ) (w : TrieWalk) (b : List ℕ) (h : Sound s 
                   (set-new (set (w .places) (d - 1) (e .next)) d (n .place) (length s) place-in)
                   (λ i k. set-old (set (w .places) (d - 1) (e .next)) d (n .place) (length s) place-in i
                   (set-old (w .places) (d - 1) (e .next) (length s) (within .next) i (f .places i (omega (arith, count-closed)))));
-              lengths = at-or-below (λ i. getD (set (w .lengths) d (kept + e .length)) i 0 ≤ room)
-                  (set-new (w .lengths) d (kept + e .length) room name-fits)
-                  (λ i k. set-old (w .lengths) d (kept + e .length) room name-fits i (f .lengths i (omega (arith, count-closed))));
+              lengths = at-or-below (λ i. getD (set (w .lengths) d (childName (closed w) e)) i 0 ≤ room)
+                  (set-new (w .lengths) d (childName (closed w) e) room name-fits)
+                  (λ i k. set-old (w .lengths) d (childName (closed w) e) room name-fits i (f .lengths i (omega (arith, count-closed))));
             };
           }
 

@@ -11,9 +11,9 @@ use Rattle.refusal.specs.declared.Refusal.{Refusal}
 use Rattle.refusal.specs.declared.Refusal.the-variants.{FaultyNode, TooManyOpenNodes}
 use Rattle.trie.proofs.Ahead.{Nested, nested-still, nested-same, Sized, Same, aheadAt, ahead-same, ahead-still, then-ends, refused-ahead, full-ahead, after, name-put, opened-ahead, sized-after, nested-after}
 use Rattle.trie.proofs.Course.{Next, over, stopped, reached, next}
-use Rattle.trie.proofs.Fits.{childWalk, childBuffer, next-by, Sound, sound-closed, sound-next, IfReached, read, within}
+use Rattle.trie.proofs.Fits.{next-by, Sound, sound-closed, sound-next, IfReached, read, within}
 use Rattle.trie.proofs.Visits.{has-child}
-use Rattle.trie.specs.Call.{atStart, closed, onTop, opened, childOf}
+use Rattle.trie.specs.Call.{atStart, closed, onTop, opened, childOf, childName, childOpened, edgePut}
 use Rattle.trie.specs.Child.{thenNode, childAt}
 use Rattle.trie.specs.ExportsTrie.{nodeAt}
 use Rattle.trie.specs.Frames.{most, topDown, stillOpen}
@@ -107,15 +107,15 @@ module _ (s : List ℕ) (room : ℕ) where
 
           module _ (l : stillOpen (w .left) (w .depth) < most) where
             abbrev v : TrieWalk
-            v = childWalk s w b (closed w) e n
+            v = childOpened (closed w) e n
 
             abbrev c : List ℕ
-            c = childBuffer s w b (closed w) e
+            c = edgePut s (closed w) e b
 
             above : suc d < most
             above = omega arith
 
-            fits : onTop (closed w) (w .lengths) + e .length ≤ length b
+            fits : childName (closed w) e ≤ length b
             fits = read s room w b (g .sound) y z e n f l .fits
 
             inside : e .place + e .length ≤ length s
@@ -128,13 +128,13 @@ module _ (s : List ℕ) (room : ℕ) where
                   places = set (set (w .places) d (e .next)) (sym q i) (n .place);
                   offsets = set (w .offsets) (sym q i) (e .offset);
                   left = set (set (w .left) d (getD (w .left) d 0 - 1)) (sym q i) (n .children);
-                  lengths = set (w .lengths) (sym q i) (onTop (closed w) (w .lengths) + e .length);
+                  lengths = set (w .lengths) (sym q i) (childName (closed w) e);
                   depth = sym q i + 1;
                   begun = true;
                   ended = w .ended;
                 }
 
-            child-lists : Lists (ahead w b) (reached (onTop (closed w) (w .lengths) + e .length) (n .terminal) v c)
+            child-lists : Lists (ahead w b) (reached (childName (closed w) e) (n .terminal) v c)
             child-lists =
                 let p : suc (suc d) ≡ v .depth = omega arith in (
                   e .offset,

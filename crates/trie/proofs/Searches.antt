@@ -1,7 +1,7 @@
 -- One turn of each search through the open nodes, from the one on top down: for `search`. Assumes nothing.
 use Prim.Native.Nat.{ℕ, zero, suc, _-_, _≤_, _<_}
 use mathlib.Core.Path.{_≡_, refl, sym, ap, _∙_}
-use mathlib.Core.Bool.{Bool, true, false, cond, _||_}
+use mathlib.Core.Bool.{Bool, true, false, cond, true≢false, _||_}
 use mathlib.Core.List.{List, _∷_}
 use native.Mathlib.Nat.{lt-irrefl}
 use native.Mathlib.Omega.{arith}
@@ -10,7 +10,7 @@ use lib.Dec.{eqb}
 use lib.ListN.{getD}
 use Rattle.trie.specs.Frames.{topDown, any, oneAbove, outOfRange, stillOpen}
 
-pub top-first : (xs : List ℕ) (d : ℕ) → 0 < d → topDown xs d ≡ getD xs (d - 1) 0 ∷ topDown xs (d - 1)
+top-first : (xs : List ℕ) (d : ℕ) → 0 < d → topDown xs d ≡ getD xs (d - 1) 0 ∷ topDown xs (d - 1)
 unfolding topDown
 top-first xs zero h = absurd (lt-irrefl 0 h)
 top-first xs (suc d) h = let e : suc d - 1 ≡ d = omega arith in rw e
@@ -55,7 +55,7 @@ module _ {left : List ℕ} {n : ℕ} where
 
   module _ {d : ℕ} (l : Closing left n d) where
     module _ (h : 0 < d) where
-      pub on-top : stillOpen left d ≡ cond (eqb (getD left (d - 1) 0) 0) (stillOpen left (d - 1)) d
+      on-top : stillOpen left d ≡ cond (eqb (getD left (d - 1) 0) 0) (stillOpen left (d - 1)) d
       unfolding stillOpen
       on-top = by d h
         where
@@ -92,3 +92,7 @@ module _ (places lengths : List ℕ) (d bytes room : ℕ) where
     name-out f g = rw (le-ltb 256 d h, sym e ∙ f) g
 
 pub ruleset ranging = (too-many, place-out, name-out)
+
+pub neither : (x y : Bool) → x || y ≡ false → (x ≡ false) × (y ≡ false)
+neither true y e = absurd (true≢false e)
+neither false y e = (refl, e)

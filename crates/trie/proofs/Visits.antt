@@ -12,7 +12,7 @@ use Rattle.numbers.specs.Parts.{partAt}
 use Rattle.refusal.specs.declared.Refusal.{Refusal}
 use Rattle.refusal.specs.declared.Refusal.the-variants.{TooManyOpenNodes}
 use Rattle.trie.proofs.Children.{child-read}
-use Rattle.trie.specs.Call.{marked, passed, opened, put, more, end, replied, visited, visitChild, childOf, onward}
+use Rattle.trie.specs.Call.{atDepth, marked, put, childName, childOpened, more, end, replied, visited, visitChild, childOf, onward}
 use Rattle.trie.specs.Child.{childAt}
 use Rattle.trie.specs.Frames.{topDown, stillOpen}
 use Rattle.trie.specs.Told.{told}
@@ -48,26 +48,6 @@ pub has-child : (left : List ℕ) (d : ℕ) → (stillOpen left d ≡ 0 → ⊥)
 unfolding stillOpen
 has-child left zero n = absurd (n refl)
 has-child left (suc d) n = has-child-by left (stillOpen left d) d (eqb (getD left d 0) 0) refl (has-child left d) n
-
-abbrev atDepth : ℕ → TrieWalk → TrieWalk
-atDepth d w =
-    record {
-      places = w .places;
-      offsets = w .offsets;
-      left = w .left;
-      lengths = w .lengths;
-      depth = d;
-      begun = w .begun;
-      ended = w .ended;
-    }
-
--- the child is opened above d nodes
-abbrev childName : ℕ → TrieWalk → Edge → ℕ
-childName d w x = getD (w .lengths) (d - 1) 0 + x .length
-
-abbrev childOpened : ℕ → TrieWalk → Edge → Node → TrieWalk
-childOpened d w x n =
-    opened d (n .place) (x .offset) (n .children) (childName d w x) (passed (x .next) (atDepth d w))
 
 -- ---- the loop: the walk is at w with the buffer b, and `visits` nodes are visited
 
@@ -145,27 +125,27 @@ module _ {s : List ℕ} {given : TrieWalk} {limit done : ℕ} {w₀ : TrieWalk} 
 
           -- its edge is put into the buffer
           module _ (l : d < 256) (o₀ : ℕ × ℕ) {o : ℕ × ℕ} {bytes c₀ : List ℕ} (u : (o, bytes) ≡ partAt o₀ s (x .place) (x .length)) (v : c₀ ≡ put bytes b (getD (w .lengths) (d - 1) 0)) where
-            reached : onward s given (limit - done) done w₀ b₀ ≡ visited (onward s given (limit - (visits + 1))) (childName d w x) (visits + 1) (childOpened d w x n) c₀ (n .terminal)
+            reached : onward s given (limit - done) done w₀ b₀ ≡ visited (onward s given (limit - (visits + 1))) (childName (atDepth d w) x) (visits + 1) (childOpened (atDepth d w) x n) c₀ (n .terminal)
             unfolding visitChild
             reached =
                 on f
                 ∙ rw (lt-leb 256 d l)
-                (ap (λ (a : List ℕ). visited (onward s given (limit - (visits + 1))) (childName d w x) (visits + 1) (childOpened d w x n) a (n .terminal))
+                (ap (λ (a : List ℕ). visited (onward s given (limit - (visits + 1))) (childName (atDepth d w) x) (visits + 1) (childOpened (atDepth d w) x n) a (n .terminal))
                 (sym (v ∙ ap (λ (a : List ℕ). put a b (getD (w .lengths) (d - 1) 0)) (ap (λ (a : (ℕ × ℕ) × List ℕ). a .1) u))))
 
-            pub exports : {y : Export} → n .terminal ≡ terminal.Export y → {r : TrieStep} → r ≡ record { answer = answer.Export (childName d w x) y; walk = childOpened d w x n; visits = visits + 1 }
+            pub exports : {y : Export} → n .terminal ≡ terminal.Export y → {r : TrieStep} → r ≡ record { answer = answer.Export (childName (atDepth d w) x) y; walk = childOpened (atDepth d w) x n; visits = visits + 1 }
                 → (told r, c₀) ≡ onward s given (limit - done) done w₀ b₀
             unfolding visited
-            exports y p = sym (reached ∙ ap (visited (onward s given (limit - (visits + 1))) (childName d w x) (visits + 1) (childOpened d w x n) c₀) y ∙ (λ i. (told (sym p i), c₀)))
+            exports y p = sym (reached ∙ ap (visited (onward s given (limit - (visits + 1))) (childName (atDepth d w) x) (visits + 1) (childOpened (atDepth d w) x n) c₀) y ∙ (λ i. (told (sym p i), c₀)))
 
-            pub goes-on : length c₀ ≡ length b → n .terminal ≡ terminal.NoExport → Going s given limit done w₀ b₀ (childOpened d w x n) c₀ (visits + 1)
+            pub goes-on : length c₀ ≡ length b → n .terminal ≡ terminal.NoExport → Going s given limit done w₀ b₀ (childOpened (atDepth d w) x n) c₀ (visits + 1)
             unfolding visited
             goes-on m y =
                 record {
                   few = omega arith;
                   fits = omega arith;
                   long = m ∙ g .long;
-                  same = reached ∙ ap (visited (onward s given (limit - (visits + 1))) (childName d w x) (visits + 1) (childOpened d w x n) c₀) y;
+                  same = reached ∙ ap (visited (onward s given (limit - (visits + 1))) (childName (atDepth d w) x) (visits + 1) (childOpened (atDepth d w) x n) c₀) y;
                 }
 
 pub ruleset visiting = (begins, depth-fits, child-left, ends, stops, refuses, name-fits, full, exports, goes-on)

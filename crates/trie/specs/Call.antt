@@ -16,6 +16,8 @@ use Rattle.trie.specs.Frames.{most, openNodes, topDown, outOfRange, stil
 use Rattle.trie.specs.declared.TrieWalk.{TrieWalk}
 use Rattle.trie.specs.declared.child.Child.{Child}
 use Rattle.trie.specs.declared.child.Child.the-variants.{Found, Refused}
+use Rattle.trie.specs.declared.node.Edge.{Edge}
+use Rattle.trie.specs.declared.node.Node.{Node}
 use Rattle.trie.specs.declared.node.NodeRead.{NodeRead}
 use Rattle.trie.specs.declared.node.NodeRead.the-variants as node
 use Rattle.trie.specs.declared.node.Terminal.{Terminal}
@@ -37,6 +39,19 @@ atStart =
 
 -- ---- what becomes of it
 
+-- with so many nodes open
+abbrev pub atDepth : (d : ℕ) → TrieWalk → TrieWalk
+atDepth d w =
+    record {
+      places = w .places;
+      offsets = w .offsets;
+      left = w .left;
+      lengths = w .lengths;
+      depth = d;
+      begun = w .begun;
+      ended = w .ended;
+    }
+
 -- marked as ended
 abbrev pub marked : TrieWalk → TrieWalk
 marked w =
@@ -52,16 +67,7 @@ marked w =
 
 -- the nodes on top that have no child left to read are closed, down to the first that has one
 abbrev pub closed : TrieWalk → TrieWalk
-closed w =
-    record {
-      places = w .places;
-      offsets = w .offsets;
-      left = w .left;
-      lengths = w .lengths;
-      depth = stillOpen (w .left) (w .depth);
-      begun = w .begun;
-      ended = w .ended;
-    }
+closed w = atDepth (stillOpen (w .left) (w .depth)) w
 
 -- what an array has for the node on top
 abbrev pub onTop : TrieWalk → List ℕ → ℕ
@@ -100,6 +106,24 @@ put bytes buffer at =
     (take at buffer ++ bytes ++ drop (at + length bytes) buffer)
     buffer
 
+-- ---- the next child of the node on top
+
+-- what is read of it
+abbrev pub childOf : List ℕ → (room : ℕ) → TrieWalk → Child
+childOf s room w =
+    childAt s room (topDown (w .offsets) (w .depth)) (onTop w (w .lengths)) (onTop w (w .places))
+
+-- the length of its name, the walk when it is opened, and the buffer with its edge
+abbrev pub childName : TrieWalk → Edge → ℕ
+childName w e = onTop w (w .lengths) + e .length
+
+abbrev pub childOpened : TrieWalk → Edge → Node → TrieWalk
+childOpened w e n =
+    opened (w .depth) (n .place) (e .offset) (n .children) (childName w e) (passed (e .next) w)
+
+abbrev pub edgePut : List ℕ → TrieWalk → Edge → (buffer : List ℕ) → List ℕ
+edgePut s w e b = put (partOf s (e .place) (e .length)) b (onTop w (w .lengths))
+
 -- ---- a call
 
 pub data Answer : Type 0 where
@@ -126,21 +150,12 @@ unfoldable pub visited : (on : (n : ℕ) → TrieWalk → List ℕ → Reply × 
 visited on len n w b terminal.NoExport = on n w b
 visited on len n w b (terminal.Export x) = replied (export len (exportTold x)) w n b
 
--- what is read of the next child of the node on top
-abbrev pub childOf : List ℕ → (room : ℕ) → TrieWalk → Child
-childOf s room w =
-    childAt s room (topDown (w .offsets) (w .depth)) (onTop w (w .lengths)) (onTop w (w .places))
-
--- it is visited, where it may be opened; n nodes were visited before
+-- the next child is visited, where it may be opened; n nodes were visited before
 unfoldable pub visitChild : List ℕ → (on : (n : ℕ) → TrieWalk → List ℕ → Reply × List ℕ) (given : TrieWalk) (n : ℕ) → TrieWalk → List ℕ → Child → Reply × List ℕ
 visitChild s on given n w b (Refused e) = refusing e given n b
 visitChild s on given n w b (Found e node) =
-    let len = onTop w (w .lengths) + e .length in
     cond (leb most (w .depth)) (refusing TooManyOpenNodes given n b)
-    (visited on len (n + 1)
-    (opened (w .depth) (node .place) (e .offset) (node .children) len (passed (e .next) w))
-    (put (partOf s (e .place) (e .length)) b (onTop w (w .lengths)))
-    (node .terminal))
+    (visited on (childName w e) (n + 1) (childOpened w e node) (edgePut s w e b) (node .terminal))
 
 -- n nodes are visited, and k more may be. Finished nodes are closed before the limit is tested
 unfoldable pub onward : List ℕ → (given : TrieWalk) (k n : ℕ) → TrieWalk → List ℕ → Reply × List ℕ
