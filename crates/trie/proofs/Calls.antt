@@ -1,6 +1,6 @@
 -- A call, by the way that it goes before and at the root: for `search`. Assumes nothing.
 use Prim.Native.Nat.{ℕ, suc, _-_, _≤_}
-use mathlib.Core.Path.{_≡_, refl, sym, ap, _∙_}
+use mathlib.Core.Path.{_≡_, sym, ap, _∙_}
 use mathlib.Core.Bool.{Bool, true, false, cond, _||_}
 use mathlib.Core.List.{List}
 use native.Mathlib.Omega.{arith}

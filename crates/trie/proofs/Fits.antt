@@ -1,91 +1,29 @@
--- What comes next, case by case; and a state in range stays in range along a course. Assumes nothing.
+-- A state in range stays in range along a course. Assumes nothing.
 use Prim.Native.Nat.{ℕ, zero, suc, _+_, _-_, _≤_, _<_}
 use mathlib.Core.Path.{_≡_, refl, sym, ap, _∙_, subst}
-use mathlib.Core.Bool.{Bool, true, false, cond, true≢false, _||_}
+use mathlib.Core.Bool.{Bool, true, false, _||_}
 use mathlib.Core.List.{List}
 use native.Mathlib.Decide.{decLt, ℕ-discrete}
 use native.Mathlib.Omega.{arith}
-use borrow.Author.Tests.{eqb-true, eqb-false, leb-true, leb-false, ltb-false, le-ltb}
-use lib.Dec.{leb, eqb, ltb}
+use borrow.Author.Tests.{ltb-false, le-ltb}
+use lib.Dec.{ltb}
 use lib.ListN.{length, getD, set, List·getD-eq-default}
 use lib.Seq.{getD-set-same, getD-set-other, set-out}
 use Rattle.numbers.proofs.Laws.{part-length}
 use Rattle.numbers.specs.Parts.{partOf}
-use Rattle.refusal.specs.Numbers.{numberOf}
-use Rattle.refusal.specs.declared.Refusal.{Refusal}
-use Rattle.refusal.specs.declared.Refusal.the-variants.{FaultyNode, TooManyOpenNodes}
 use Rattle.trie.proofs.Ahead.{put-length}
 use Rattle.trie.proofs.Children.{EdgeIn, edge-in, node-in, Read, child-read}
-use Rattle.trie.proofs.Course.{Next, over, stopped, reached, childNext, rootNext, next, next-open, next-root, Course, ends, refuses, waits, limits, exports, visits, InRange}
+use Rattle.trie.proofs.Course.{next, next-by, IfReached, InRange}
 use Rattle.trie.proofs.Searches.{neither}
-use Rattle.trie.proofs.Stops.{stops}
 use Rattle.trie.proofs.Visits.{still-at-most}
-use Rattle.trie.specs.Call.{closed, onTop, opened, childOf, childName, childOpened, edgePut, Reply}
+use Rattle.trie.specs.Call.{closed, onTop, opened, childOf, childName, childOpened, edgePut}
 use Rattle.trie.specs.ExportsTrie.{nodeAt}
 use Rattle.trie.specs.Frames.{most, openNodes, topDown, any, outOfRange, stillOpen}
 use Rattle.trie.specs.declared.TrieWalk.{TrieWalk}
-use Rattle.trie.specs.declared.child.Child.{Child}
-use Rattle.trie.specs.declared.child.Child.the-variants.{Found, Refused}
+use Rattle.trie.specs.declared.child.Child.the-variants.{Found}
 use Rattle.trie.specs.declared.node.Edge.{Edge}
 use Rattle.trie.specs.declared.node.Node.{Node}
-use Rattle.trie.specs.declared.node.NodeRead.{NodeRead}
 use Rattle.trie.specs.declared.node.NodeRead.the-variants as node
-
--- ---- what is shown of each case holds of what comes next
-
-module _ (s : List ℕ) (w : TrieWalk) (b : List ℕ) where
-  pub record Cases (Q : Next → Type 0) : Type 0 where
-    pub done : w .begun ≡ true → stillOpen (w .left) (w .depth) ≡ 0 → Q over
-    pub bad : w .begun ≡ true → (stillOpen (w .left) (w .depth) ≡ 0 → ⊥) → (x : Refusal) → childOf s (length b) (closed w) ≡ Refused x → Q (stopped (numberOf x))
-    pub full : w .begun ≡ true → (stillOpen (w .left) (w .depth) ≡ 0 → ⊥) → (e : Edge) (n : Node) → childOf s (length b) (closed w) ≡ Found e n → most ≤ stillOpen (w .left) (w .depth)
-        → Q (stopped (numberOf TooManyOpenNodes))
-    pub child : w .begun ≡ true → (stillOpen (w .left) (w .depth) ≡ 0 → ⊥) → (e : Edge) (n : Node) → childOf s (length b) (closed w) ≡ Found e n → stillOpen (w .left) (w .depth) < most
-        → Q (reached (childName (closed w) e) (n .terminal) (childOpened (closed w) e n) (edgePut s (closed w) e b))
-    pub none : w .begun ≡ false → nodeAt s 0 ≡ node.Fault → Q (stopped (numberOf FaultyNode))
-    pub root : w .begun ≡ false → (n : Node) → nodeAt s 0 ≡ node.Found n → Q (reached 0 (n .terminal) (opened 0 (n .place) 0 (n .children) 0 w) b)
-
-  module _ (Q : Next → Type 0) (c : Cases Q) where
-    depth-by : w .begun ≡ true → (stillOpen (w .left) (w .depth) ≡ 0 → ⊥) → (e : Edge) (n : Node) → childOf s (length b) (closed w) ≡ Found e n
-        → (t : Bool) → leb most (stillOpen (w .left) (w .depth)) ≡ t
-        → Q (cond t (stopped (numberOf TooManyOpenNodes)) (reached (childName (closed w) e) (n .terminal) (childOpened (closed w) e n) (edgePut s (closed w) e b)))
-    depth-by y z e n f true q = c .full y z e n f (leb-true most (stillOpen (w .left) (w .depth)) q)
-    depth-by y z e n f false q = c .child y z e n f (leb-false most (stillOpen (w .left) (w .depth)) q)
-
-    child-by : w .begun ≡ true → (stillOpen (w .left) (w .depth) ≡ 0 → ⊥) → (x : Child) → childOf s (length b) (closed w) ≡ x → Q (childNext s (closed w) b x)
-    child-by y z (Refused x) f = c .bad y z x f
-    child-by y z (Found e n) f = depth-by y z e n f (leb most (stillOpen (w .left) (w .depth))) refl
-
-    open-by : w .begun ≡ true → (t : Bool) → eqb (stillOpen (w .left) (w .depth)) 0 ≡ t → Q (cond t over (childNext s (closed w) b (childOf s (length b) (closed w))))
-    open-by y true e = c .done y (eqb-true (stillOpen (w .left) (w .depth)) 0 e)
-    open-by y false e = child-by y (eqb-false (stillOpen (w .left) (w .depth)) 0 e) (childOf s (length b) (closed w)) refl
-
-    root-by : w .begun ≡ false → (x : NodeRead) → nodeAt s 0 ≡ x → Q (rootNext s w b x)
-    root-by y node.Fault e = c .none y e
-    root-by y (node.Found n) e = c .root y n e
-
-    pub next-by : Q (next s w b)
-    next-by = by (w .begun) refl
-      where
-        by : (t : Bool) → w .begun ≡ t → Q (next s w b)
-        by true y = subst Q (sym (next-open s w b y)) (open-by y (eqb (stillOpen (w .left) (w .depth)) 0) refl)
-        by false y = subst Q (sym (next-root s w b y)) (root-by y (nodeAt s 0) refl)
-
--- ---- what every visit keeps, every call keeps that goes on
-
-abbrev pub IfReached : (TrieWalk → List ℕ → Type 0) → Next → Type 0
-IfReached P over = Unit {0}
-IfReached P (stopped number) = Unit {0}
-IfReached P (reached len t v c) = P v c
-
-module _ (s : List ℕ) (P : TrieWalk → List ℕ → Type 0) (visit-keeps : (w : TrieWalk) (b : List ℕ) → P w b → IfReached P (next s w b))
-    (close-keeps : (w : TrieWalk) (b : List ℕ) → P w b → w .begun ≡ true → P (closed w) b) where
-  pub course-keeps : {given : TrieWalk} {k n : ℕ} {w : TrieWalk} {b : List ℕ} {p : Reply × List ℕ} → Course s given k n w b p → P w b → stops (p .0 .answer) ≡ false → P (p .0 .walk) (p .1)
-  course-keeps (ends e z) h q = absurd (true≢false q)
-  course-keeps (refuses e) h q = absurd (true≢false q)
-  course-keeps waits h q = h
-  course-keeps (limits {w = w} {b = b} y) h q = close-keeps w b h y
-  course-keeps (exports {w = w} {b = b} e) h q = subst (IfReached P) e (visit-keeps w b h)
-  course-keeps (visits {w = w} {b = b} e c) h q = course-keeps c (subst (IfReached P) e (visit-keeps w b h)) q
 
 -- ---- a state in range, element by element
 

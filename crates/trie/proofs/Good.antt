@@ -10,8 +10,8 @@ use Rattle.refusal.specs.Numbers.{numberOf}
 use Rattle.refusal.specs.declared.Refusal.{Refusal}
 use Rattle.refusal.specs.declared.Refusal.the-variants.{FaultyNode, TooManyOpenNodes}
 use Rattle.trie.proofs.Ahead.{Nested, nested-still, nested-same, Sized, Same, aheadAt, ahead-same, ahead-still, then-ends, refused-ahead, full-ahead, after, name-put, opened-ahead, sized-after, nested-after}
-use Rattle.trie.proofs.Course.{Next, over, stopped, reached, next}
-use Rattle.trie.proofs.Fits.{next-by, Sound, sound-closed, sound-next, IfReached, read, within}
+use Rattle.trie.proofs.Course.{Next, over, stopped, reached, next, next-by, IfReached}
+use Rattle.trie.proofs.Fits.{Sound, sound-closed, sound-next, read, within}
 use Rattle.trie.proofs.Visits.{has-child}
 use Rattle.trie.specs.Call.{atStart, closed, onTop, opened, childOf, childName, childOpened, edgePut}
 use Rattle.trie.specs.Child.{thenNode, childAt}

@@ -6,12 +6,11 @@ use mathlib.Core.List.{List, [], _∷_, _++_}
 use mathlib.Core.Option.{some}
 use native.Mathlib.Omega.{arith}
 use lib.ListN.{length, take}
-use Rattle.trie.proofs.Course.{Next, over, stopped, reached, next, Course, call-course}
+use Rattle.trie.proofs.Course.{Next, over, stopped, reached, next, IfReached, Course, call-course, stops, course-keeps}
 use Rattle.trie.proofs.Course as course
-use Rattle.trie.proofs.Fits.{IfReached, course-keeps, sound-ranged}
+use Rattle.trie.proofs.Fits.{sound-ranged}
 use Rattle.trie.proofs.Good.{Good, ahead, Lists, good-closed, next-lists, good-next, good-start}
 use Rattle.trie.proofs.Says.{Says, says-over, says-stopped, says-reached, says-one, course-joins, calls-say}
-use Rattle.trie.proofs.Stops.{stops}
 use Rattle.trie.specs.Call.{atStart, Answer, export, more, end, refused, Reply, call}
 use Rattle.trie.specs.Frames.{most}
 use Rattle.trie.specs.Joined.{Symbol, symbol, Ending, atEnd, atRefusal, Joined, joined, join, calls, withSymbol, exportsIn, visitsIn, endingOf, heard}

@@ -10,7 +10,7 @@ use lib.ListN.{length, getD, take}
 use Rattle.numbers.proofs.Laws.{uleb-read}
 use Rattle.numbers.specs.Leb128.{ulebAt}
 use Rattle.numbers.specs.declared.Number.{Number}
-use Rattle.numbers.specs.declared.Number.the-variants.{Value, Fault}
+use Rattle.numbers.specs.declared.Number.the-variants.{Value}
 use Rattle.trie.specs.Child.{thenEdge, thenNode}
 use Rattle.trie.specs.ExportsTrie.{thenExport, exportAt, countedAt}
 use Rattle.trie.specs.declared.export.Export.{Export}

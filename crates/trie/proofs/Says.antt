@@ -7,9 +7,8 @@ use mathlib.Core.List.{List, [], _∷_}
 use mathlib.Core.Option.{some}
 use native.Mathlib.Omega.{arith}
 use lib.ListN.{length, take}
-use Rattle.trie.proofs.Course.{over, stopped, reached, next, next-closed, Course, ends, refuses, waits, limits, exports, visits, InRange, call-course}
-use Rattle.trie.proofs.Fits.{course-keeps, fit, Sound, sound-closed, sound-next, sound-ranged}
-use Rattle.trie.proofs.Stops.{stops}
+use Rattle.trie.proofs.Course.{over, stopped, reached, next, next-closed, Course, ends, refuses, waits, limits, exports, visits, InRange, call-course, stops, course-keeps}
+use Rattle.trie.proofs.Fits.{fit, Sound, sound-closed, sound-next, sound-ranged}
 use Rattle.trie.specs.Call.{Answer, export, more, end, refused, Reply, call}
 use Rattle.trie.specs.Joined.{Ending, atEnd, atRefusal, Joined, joined, join, calls, withSymbol}
 use Rattle.trie.specs.declared.TrieWalk.{TrieWalk}

@@ -5,16 +5,10 @@ use mathlib.Core.Path.{_≡_, refl, sym, ap, subst}
 use mathlib.Core.Bool.{Bool, true, false, true≢false}
 use mathlib.Core.List.{List}
 use lib.ListN.{length}
-use Rattle.trie.proofs.Course.{Course, ends, refuses, waits, limits, exports, visits, InRange, ended-stays, call-course}
+use Rattle.trie.proofs.Course.{stops, Course, ends, refuses, waits, limits, exports, visits, InRange, ended-stays, call-course}
 use Rattle.trie.specs.Call.{marked, closed, Answer, export, more, end, refused, Reply, replied, call}
 use Rattle.trie.specs.Frames.{openNodes, topDown, any, outOfRange}
 use Rattle.trie.specs.declared.TrieWalk.{TrieWalk}
-
-abbrev pub stops : Answer → Bool
-stops (export len x) = false
-stops more = false
-stops end = true
-stops (refused number) = true
 
 module _ (s : List ℕ) (room : ℕ) (given : TrieWalk) where
   record Over (w : TrieWalk) : Type 0 where

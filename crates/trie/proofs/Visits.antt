@@ -62,9 +62,6 @@ module _ {s : List ℕ} {given : TrieWalk} {limit done : ℕ} {w₀ : TrieWalk} 
   begins h l = record { few = l; fits = h; long = refl; same = refl }
 
   module _ {w : TrieWalk} {b : List ℕ} {visits : ℕ} (g : Going s given limit done w₀ b₀ w b visits) {d : ℕ} (e : d ≡ stillOpen (w .left) (w .depth)) where
-    pub depth-fits : d ≤ 256
-    depth-fits = omega (arith, e, still-at-most (w .left) (w .depth), g .fits)
-
     pub child-left : (d ≡ 0 → ⊥) → 0 < getD (w .left) (d - 1) 0
     child-left z = rw e (has-child (w .left) (w .depth) (λ q. z (e ∙ q)))
 
@@ -148,4 +145,4 @@ module _ {s : List ℕ} {given : TrieWalk} {limit done : ℕ} {w₀ : TrieWalk} 
                   same = reached ∙ ap (visited (onward s given (limit - (visits + 1))) (childName (atDepth d w) x) (visits + 1) (childOpened (atDepth d w) x n) c₀) y;
                 }
 
-pub ruleset visiting = (begins, depth-fits, child-left, ends, stops, refuses, name-fits, full, exports, goes-on)
+pub ruleset visiting = (begins, child-left, ends, stops, refuses, name-fits, full, exports, goes-on)

@@ -30,9 +30,9 @@ step-spec =
     (λ c. search needs)
     (λ c.
     let o = c .before .before .before .before .before .before .before .before in
-    is-begun _ _ _ _ (o .before .before .before .before .open-nodes .ensures) (o .out-of-range .ensures) (c .before .before .before .before .before .before .before .if1 .left) (c .before .before .before .before .before .before .if2 .left) (c .before .before .before .before .before .if3 .left) (c .before .before .before .before .if4 .taken) (c .before .before .onward .ensures))
+    is-begun _ _ _ _ (o .before .before .before .before .open-nodes .ensures) (o .out-of-range .ensures) (c .before .before .before .before .before .before .before .if1 .left) (c .before .before .before .before .before .before .if2 .left) (c .before .before .before .before .before .if3 .left) (c .before .before .before .before .if4 .taken) (search (c .before .before .onward .ensures)))
     (λ c κs. search needs)
     (λ c. search needs)
     (λ c.
     let o = c .before .before .before .before .before .before .before .before in
-    is-first _ _ _ _ (o .before .before .before .before .open-nodes .ensures) (o .out-of-range .ensures) (c .before .before .before .before .before .before .before .if1 .left) (c .before .before .before .before .before .before .if2 .left) (c .before .before .before .before .before .if3 .left) (c .before .before .before .before .if4 .left) (c .before .before .root .ensures)))
+    is-first _ _ _ _ (o .before .before .before .before .open-nodes .ensures) (o .out-of-range .ensures) (c .before .before .before .before .before .before .before .if1 .left) (c .before .before .before .before .before .before .if2 .left) (c .before .before .before .before .before .if3 .left) (c .before .before .before .before .if4 .left) (search (c .before .before .root .ensures))))
