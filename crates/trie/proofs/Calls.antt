@@ -32,24 +32,24 @@ module _ (s : List ℕ) (given : TrieWalk) (k : ℕ) (b : List ℕ) {x : NodeRea
   unfolding visitRoot
   no-root f p = (λ i. (told (p i), b)) ∙ ap (visitRoot s given k b) (sym f ∙ q)
 
-  module _ {n : Node} (f : x ≡ node.Found n) {w : TrieWalk} (e : w ≡ opened 0 (n .place) 0 (n .children) 0 given) where
-    at-root : visited (onward s given k) 0 1 w b (n .terminal) ≡ visitRoot s given k b (nodeAt s 0)
+  module _ {n : Node} (f : x ≡ node.Found n) where
+    abbrev rooted : TrieWalk
+    rooted = opened 0 (n .place) 0 (n .children) 0 given
+
+    at-root : visited (onward s given k) 0 1 rooted b (n .terminal) ≡ visitRoot s given k b (nodeAt s 0)
     unfolding visitRoot
-    at-root = ap (λ (v : TrieWalk). visited (onward s given k) 0 1 v b (n .terminal)) e ∙ ap (visitRoot s given k b) (sym f ∙ q)
+    at-root = ap (visitRoot s given k b) (sym f ∙ q)
 
-    pub root-fits : w .depth ≤ 256
-    root-fits = let d = ap (λ (v : TrieWalk). v .depth) e in omega arith
-
-    pub root-exports : {y : Export} → n .terminal ≡ terminal.Export y → {r : TrieStep} → r ≡ record { answer = answer.Export 0 y; walk = w; visits = 1 }
+    pub root-exports : {y : Export} → n .terminal ≡ terminal.Export y → {r : TrieStep} → r ≡ record { answer = answer.Export 0 y; walk = rooted; visits = 1 }
         → (told r, b) ≡ visitRoot s given k b (nodeAt s 0)
     unfolding visited
-    root-exports y p = (λ i. (told (p i), b)) ∙ ap (visited (onward s given k) 0 1 w b) (sym y) ∙ at-root
+    root-exports y p = (λ i. (told (p i), b)) ∙ ap (visited (onward s given k) 0 1 rooted b) (sym y) ∙ at-root
 
-    pub root-on : n .terminal ≡ terminal.NoExport → {p : Reply × List ℕ} → p ≡ onward s given k 1 w b → p ≡ visitRoot s given k b (nodeAt s 0)
+    pub root-on : n .terminal ≡ terminal.NoExport → {p : Reply × List ℕ} → p ≡ onward s given k 1 rooted b → p ≡ visitRoot s given k b (nodeAt s 0)
     unfolding visited
-    root-on y p = p ∙ ap (visited (onward s given k) 0 1 w b) (sym y) ∙ at-root
+    root-on y p = p ∙ ap (visited (onward s given k) 0 1 rooted b) (sym y) ∙ at-root
 
-pub ruleset rooting = (no-root, root-fits, root-exports, root-on)
+pub ruleset rooting = (no-root, root-exports, root-on)
 
 -- ---- before the first visit
 

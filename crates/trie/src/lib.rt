@@ -3,7 +3,7 @@
 // of nodes visited.
 ghost use mathlib.Core.Path.{_≡_};
 ghost use Prim.Native.Nat.{_-_, _≤_, _<_};
-ghost use Rattle.trie.specs.Call.{atStart, marked, opened, onward, visitRoot, call};
+ghost use Rattle.trie.specs.Call.{atStart, marked, onward, visitRoot, call};
 ghost use Rattle.trie.specs.ExportsTrie.{nodeAt};
 ghost use Rattle.trie.specs.Told.{told};
 ghost use Rattle.trie.specs.declared.TrieAnswer.the-variants.{Refused};
@@ -99,7 +99,14 @@ impl TrieWalk {
         let NodeRead::Found(node) = read_node(s, 0) else {
             return self.refused(Refusal::FaultyNode, 0);
         };
-        let w = self.rooted(node.place as u64, node.children);
+        // It is opened.
+        let mut w = self;
+        w.places[0] = node.place as u64;
+        w.offsets[0] = 0;
+        w.left[0] = node.children;
+        w.lengths[0] = 0;
+        w.depth = 1;
+        w.begun = true;
         let terminal = node.terminal;
         match terminal {
             Terminal::NoExport => self.onward(w, s, name, limit, 1),
@@ -157,20 +164,6 @@ impl TrieWalk {
                 }
             }
         }
-    }
-
-    // The root is opened.
-    fn rooted(self, place: u64, children: u8) -> Self
-        ensures { λ r. ⌜ r ≡ opened 0 place 0 children 0 self ⌝ }
-    {
-        let mut w = self;
-        w.places[0] = place;
-        w.offsets[0] = 0;
-        w.left[0] = children;
-        w.lengths[0] = 0;
-        w.depth = 1;
-        w.begun = true;
-        w
     }
 
     // The state as it was given, marked as ended.
