@@ -11,7 +11,7 @@ use Rattle.cursor.specs.declared.Motion.{Motion}
 use Rattle.cursor.specs.declared.Motion.the-variants.{Stays, Adds, Seeks, Restarts, Repeats, Ends, Refuses}
 use Rattle.listing.proofs.Held.{held}
 use Rattle.listing.proofs.Resumed.{Why, no-bytes, behind-done, resumed}
-use Rattle.listing.specs.Call.{State, end, call}
+use Rattle.listing.specs.Call.{State, call}
 use Rattle.listing.specs.Machine.{Effect, _and_}
 use Rattle.operations.specs.declared.bind_operation.BindOperation.{BindOperation}
 use Rattle.operations.specs.declared.bind_operation.BindOperation.the-variants.{
@@ -29,6 +29,7 @@ use Rattle.operations.specs.declared.bind_operation.BindOperation.the-variants.
   DoBindTimesSkipping,
 }
 use Rattle.refusal.specs.declared.Refusal.the-variants.{OrdinalTooLarge}
+use Rattle.runs.specs.Runs.{end}
 use Rattle.bind.specs.Binds.{withLibrary, lazily, effectOf, binds}
 use Rattle.bind.specs.declared.Registers.{Registers}
 

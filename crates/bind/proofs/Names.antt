@@ -9,7 +9,7 @@ use lib.IntN.{pos}
 use lib.ListN.{length}
 use Rattle.cursor.specs.declared.Motion.the-variants.{Stays, Restarts, Ends, Refuses}
 use Rattle.listing.proofs.Held.{held}
-use Rattle.listing.specs.Call.{State, item, call}
+use Rattle.listing.specs.Call.{State, call}
 use Rattle.listing.specs.Machine.{_and_}
 use Rattle.numbers.proofs.Laws.{part-length}
 use Rattle.numbers.specs.Parts.{partOf}
@@ -32,6 +32,7 @@ use Rattle.operations.specs.declared.bind_operation.BindOperation.the-variants.
   DoBindTimesSkipping,
 }
 use Rattle.refusal.specs.declared.Refusal.the-variants.{OrdinalTooLarge}
+use Rattle.runs.specs.Runs.{item}
 use Rattle.bind.specs.Binds.{withLibrary, lazily, effectOf, binds}
 use Rattle.bind.specs.declared.Bind.{Bind}
 use Rattle.bind.specs.declared.Registers.{Registers}

@@ -8,9 +8,9 @@ use Rattle.cursor.specs.Cursor.{inRange}
 use Rattle.listing.proofs.Joined as joins
 use Rattle.listing.proofs.Kept as keeps
 use Rattle.listing.proofs.Resumed as resumes
-use Rattle.listing.specs.Call.{begun, begin, end, refused, call}
-use Rattle.listing.specs.Listing.{listing}
-use Rattle.listing.specs.Runs.{Run, Walks, heard}
+use Rattle.listing.specs.Call.{begin, call}
+use Rattle.listing.specs.Listing.{listing, heard}
+use Rattle.runs.specs.Runs.{begun, end, refused, Run, Walks}
 use Rattle.bind.specs.Binds.{plainly, weakly, lazily, binds}
 use Rattle.bind.specs.Told.{view}
 use Rattle.bind.specs.declared.Bind.{Bind}
@@ -20,17 +20,17 @@ use Rattle.bind.specs.declared.Registers.{Registers}
 module _ (s : List ℕ) (w : BindWalk) where
   -- calls from a start on say what the stream lists
   module _ (size : ℕ) where
-    pub joined-plain : begin size plainly ≡ begun (view w) → Walks binds s (view w) (heard (listing binds size plainly s))
+    pub joined-plain : begin size plainly ≡ begun (view w) → Walks (call binds s) (view w) (heard (listing binds size plainly s))
     joined-plain = joins.joined binds s size plainly (view w)
 
-    pub joined-weak : begin size weakly ≡ begun (view w) → Walks binds s (view w) (heard (listing binds size weakly s))
+    pub joined-weak : begin size weakly ≡ begun (view w) → Walks (call binds s) (view w) (heard (listing binds size weakly s))
     joined-weak = joins.joined binds s size weakly (view w)
 
-    pub joined-lazy : begin size lazily ≡ begun (view w) → Walks binds s (view w) (heard (listing binds size lazily s))
+    pub joined-lazy : begin size lazily ≡ begun (view w) → Walks (call binds s) (view w) (heard (listing binds size lazily s))
     joined-lazy = joins.joined binds s size lazily (view w)
 
     -- and nothing else, however it was started
-    pub joined-only : (g : Registers) → begin size g ≡ begun (view w) → (r : Run Bind) → Walks binds s (view w) r → r ≡ heard (listing binds size g s)
+    pub joined-only : (g : Registers) → begin size g ≡ begun (view w) → (r : Run Bind) → Walks (call binds s) (view w) r → r ≡ heard (listing binds size g s)
     joined-only g = joins.joined-only binds s size g (view w)
 
   -- after End a call goes on behind what this one read: behind a Done, or where no bytes are left (of a lazy walk only there: proofs/Lazy.antt)

@@ -6,11 +6,12 @@ use lib.ListN.{length}
 use Rattle.cursor.specs.Cursor.{standingOf}
 use Rattle.cursor.specs.declared.Standing.{Standing}
 use Rattle.cursor.specs.declared.Standing.the-variants as standing
-use Rattle.listing.specs.Call.{State, state, Answer, item, end, refused, called, call}
+use Rattle.listing.specs.Call.{State, state, called, call}
 use Rattle.listing.specs.Machine.{Machine}
 use Rattle.listing.specs.Stream.{streamAt}
 use Rattle.listing.proofs.Answers.{Keeps, by-due, by-read}
 use Rattle.listing.proofs.Runs.{call-by}
+use Rattle.runs.specs.Runs.{Answer, item, end, refused}
 
 module _ (M : Machine) (s : List ℕ) (P : M .Reg → Type 0) (keeps : Keeps M s P) where
   -- an item is made of registers of which it holds
@@ -19,7 +20,7 @@ module _ (M : Machine) (s : List ℕ) (P : M .Reg → Type 0) (keeps : Keeps M s
     pub is : x ≡ M .item (v .registers) offset
     pub holds : P (v .registers)
 
-  abbrev pub Holds : Answer (M .Reg) (M .Item) → Type 0
+  abbrev pub Holds : Answer (State (M .Reg)) (M .Item) → Type 0
   Holds (item x v) = Gives x v
   Holds (end v) = P (v .registers)
   Holds (refused e v) = P (v .registers)
@@ -36,7 +37,7 @@ module _ (M : Machine) (s : List ℕ) (P : M .Reg → Type 0) (keeps : Keeps M s
     holds-called standing.Reading =
         by-read M s P keeps w Holds made (λ v q. q) (λ e. p) (streamAt M s (w .cursor .at)) (w .cursor .at) refl w p
 
-    pub held : {a : Answer (M .Reg) (M .Item)} → call M s w ≡ a → Holds a
+    pub held : {a : Answer (State (M .Reg)) (M .Item)} → call M s w ≡ a → Holds a
     held e =
         subst Holds e
         (subst Holds (sym (call-by M s w refl)) (holds-called (standingOf (w .cursor) (length s))))

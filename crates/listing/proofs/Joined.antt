@@ -14,15 +14,16 @@ use Rattle.cursor.specs.declared.Lack.the-variants.{Nothing, Lacks}
 use Rattle.cursor.specs.declared.Start.the-variants as start
 use Rattle.cursor.specs.declared.Turn.{Turn}
 use Rattle.cursor.specs.declared.Turn.the-variants.{On, Anew, Due, End, Refused}
-use Rattle.listing.specs.Call.{State, state, begun, beginFrom, begin}
-use Rattle.listing.specs.Listing.{Listing, places, repeated, listed, listingOf, listing}
+use Rattle.listing.specs.Call.{State, state, beginFrom, begin, call}
+use Rattle.listing.specs.Listing.{Listing, places, repeated, listed, listingOf, listing, heard}
 use Rattle.listing.specs.Machine.{Machine}
-use Rattle.listing.specs.Runs.{Run, gives, Walks, heard}
 use Rattle.listing.specs.Stream.{Stream, out, bad, one, streamAt}
 use Rattle.refusal.specs.declared.Refusal.the-variants.{PointerSize}
-use Rattle.listing.proofs.Runs.{InRange, live, runs, runDue, runTurn, runOps, runBy, runOf, walks-all, walks-one}
+use Rattle.listing.proofs.Runs.{InRange, live, runs, runDue, runTurn, runOps, runBy, runOf, walks-all}
 use Rattle.places.proofs.Places.{place-first, place-next, place-below}
 use Rattle.places.specs.Places.{placeAt}
+use Rattle.runs.proofs.Walks.{walks-one}
+use Rattle.runs.specs.Runs.{begun, Run, gives, Walks}
 
 module _ (M : Machine) where
   -- places i .. i + n - 1 of a repeat; m is the number of all its places
@@ -68,11 +69,11 @@ module _ (M : Machine) where
 
     -- calls from a state that is in no repeat say what the operations from its read place on list
     pub reads-on : (size at a o : ℕ) (g : M .Reg) → InRange (live size at 0 a o) (length s) → o < 2 ^ 64 →
-        Walks M s (state (live size at 0 a o) g) (heard (listingFrom (state (live size at 0 a o) g)))
+        Walks (call M s) (state (live size at 0 a o) g) (heard (listingFrom (state (live size at 0 a o) g)))
     unfolding runOf
     reads-on size at a o g r b =
         let w = state (live size at 0 a o) g in
-        subst (Walks M s w)
+        subst (Walks (call M s) w)
         (ap (runBy M s w) (sym (stands-live (w .cursor) (length s) (r .inside) refl (r .sized) refl)) ∙ sym (heard-ops size (streamAt M s at) 0 g o b))
         (walks-all M s w)
 
@@ -93,13 +94,13 @@ module _ (M : Machine) where
       begun-sized e = begun-is e .sized
 
       -- calls from a start on say what the stream lists
-      pub joined : (w : State (M .Reg)) → begin size g ≡ begun w → Walks M s w (heard (listing M size g s))
+      pub joined : (w : State (M .Reg)) → begin size g ≡ begun w → Walks (call M s) w (heard (listing M size g s))
       unfolding listing
       joined w e =
           let b = begun-is e in
-          subst (λ (v : State (M .Reg)). Walks M s v (heard (listing M size g s))) (sym (b .is))
+          subst (λ (v : State (M .Reg)). Walks (call M s) v (heard (listing M size g s))) (sym (b .is))
           (reads-on size 0 0 0 g (record { inside = omega arith; sized = b .sized }) (omega arith))
 
       -- and nothing else
-      pub joined-only : (w : State (M .Reg)) → begin size g ≡ begun w → (r : Run (M .Item)) → Walks M s w r → r ≡ heard (listing M size g s)
-      joined-only w e r p = walks-one M s p (joined w e)
+      pub joined-only : (w : State (M .Reg)) → begin size g ≡ begun w → (r : Run (M .Item)) → Walks (call M s) w r → r ≡ heard (listing M size g s)
+      joined-only w e r p = walks-one (call M s) p (joined w e)

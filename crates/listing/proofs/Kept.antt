@@ -6,17 +6,18 @@ use mathlib.Core.Bool.{Bool, true, false, cond}
 use lib.ListN.{length}
 use Rattle.cursor.specs.Cursor.{inRange, liveStanding, standingOf, markedEnded}
 use Rattle.cursor.specs.declared.Standing.the-variants as standing
-use Rattle.listing.specs.Call.{State, state, Answer, item, end, refused, called, call}
+use Rattle.listing.specs.Call.{State, state, called, call}
 use Rattle.listing.specs.Machine.{Machine}
 use Rattle.listing.specs.Stream.{streamAt}
 use Rattle.listing.proofs.Answers.{Keeps, by-due, by-read}
 use Rattle.listing.proofs.Runs.{call-by}
+use Rattle.runs.specs.Runs.{Answer, item, end, refused}
 
 module _ (M : Machine) (w : State (M .Reg)) where
   abbrev pub ended : State (M .Reg)
   ended = state (markedEnded (w .cursor)) (w .registers)
 
-  abbrev IfRefused : Answer (M .Reg) (M .Item) → Type 0
+  abbrev IfRefused : Answer (State (M .Reg)) (M .Item) → Type 0
   IfRefused (item x v) = Unit {0}
   IfRefused (end v) = Unit {0}
   IfRefused (refused e v) = v ≡ ended

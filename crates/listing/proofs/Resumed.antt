@@ -15,15 +15,16 @@ use Rattle.cursor.specs.declared.Motion.{Motion}
 use Rattle.cursor.specs.declared.Motion.the-variants.{Stays, Adds, Seeks, Restarts, Repeats, Ends, Refuses}
 use Rattle.cursor.specs.declared.Turn.{Turn}
 use Rattle.cursor.specs.declared.Turn.the-variants.{On, Anew, Due, End, Refused}
-use Rattle.listing.specs.Call.{State, state, Answer, item, end, refused, due, answered, read, call}
+use Rattle.listing.specs.Call.{State, state, due, answered, read, call}
+use Rattle.listing.specs.Listing.{heard}
 use Rattle.listing.specs.Machine.{Effect, _and_, Machine}
-use Rattle.listing.specs.Runs.{Walks, heard}
 use Rattle.listing.specs.Stream.{Stream, out, bad, one, streamAt}
 use Rattle.listing.proofs.Joined.{listingFrom, reads-on}
 use Rattle.listing.proofs.Kept.{out-of-range}
 use Rattle.listing.proofs.Runs.{live, InRange, in-range, call-reads, call-due}
 use Rattle.listing.proofs.Streams.{Behind, behind, is-out}
 use Rattle.operations.specs.Table.{operation, operationAt}
+use Rattle.runs.specs.Runs.{Answer, item, end, refused, Walks}
 
 -- only one motion says the end
 is-ends : (size o : ℕ) (m : Motion) → turnOf size o m ≡ End → m ≡ Ends
@@ -52,7 +53,7 @@ module _ (M : Machine) (s : List ℕ) where
     below : v .cursor .offset < 2 ^ 64
     why : Why from v
 
-  abbrev IfEnd : (from size : ℕ) → Answer (M .Reg) (M .Item) → Type 0
+  abbrev IfEnd : (from size : ℕ) → Answer (State (M .Reg)) (M .Item) → Type 0
   IfEnd from size (item x v) = Unit {0}
   IfEnd from size (end v) = Stopped from size v
   IfEnd from size (refused e v) = Unit {0}
@@ -107,10 +108,10 @@ module _ (M : Machine) (s : List ℕ) where
   -- and calls from that state on say what the operations from there on list
   pub record Resumed (from : ℕ) (v : State (M .Reg)) : Type 0 where
     pub why : Why from v
-    pub goes-on : Walks M s v (heard (listingFrom M s v))
+    pub goes-on : Walks (call M s) v (heard (listingFrom M s v))
 
   module _ (w : State (M .Reg)) (e : w .cursor .ended ≡ false) (c : w .cursor .offset < 2 ^ 64) where
-    abbrev IfMyEnd : Answer (M .Reg) (M .Item) → Type 0
+    abbrev IfMyEnd : Answer (State (M .Reg)) (M .Item) → Type 0
     IfMyEnd = IfEnd (w .cursor .at) (w .cursor .size)
 
     end-live : InRange (w .cursor) (length s) → (n : ℕ) → w .cursor .remaining ≡ n → IfMyEnd (call M s w)
@@ -127,7 +128,7 @@ module _ (M : Machine) (s : List ℕ) where
         record {
           why = p .why;
           goes-on =
-              subst (λ (d : Cursor). Walks M s (state d (v .registers)) (heard (listingFrom M s (state d (v .registers))))) (sym (p .is))
+              subst (λ (d : Cursor). Walks (call M s) (state d (v .registers)) (heard (listingFrom M s (state d (v .registers))))) (sym (p .is))
               (reads-on M s (w .cursor .size) (v .cursor .at) (p .advance) (v .cursor .offset) (v .registers) (record { inside = p .inside; sized = z }) (p .below));
         }
 

@@ -1,6 +1,6 @@
--- What calls from any state on say: there is one run, and one only. Assumes nothing.
+-- What calls from any state on say: every state has a run. Assumes nothing.
 use Prim.Native.Nat.{ℕ, zero, suc, _+_, _≤_, _%_, _^_}
-use mathlib.Core.Path.{_≡_, refl, ap, ap₂, sym, _∙_, subst}
+use mathlib.Core.Path.{_≡_, refl, ap, sym, _∙_}
 use mathlib.Core.List.{List}
 use mathlib.Core.Bool.{Bool, true, false, cond, and-eq-true-iff}
 use borrow.Author.Tests.{leb-true}
@@ -16,13 +16,13 @@ use Rattle.cursor.specs.declared.Standing.{Standing}
 use Rattle.cursor.specs.declared.Standing.the-variants as standing
 use Rattle.cursor.specs.declared.Turn.{Turn}
 use Rattle.cursor.specs.declared.Turn.the-variants.{On, Anew, Due, End, Refused}
-use Rattle.listing.specs.Call.{State, state, item, due, answered, read, called, call}
+use Rattle.listing.specs.Call.{State, state, due, answered, read, called, call}
 use Rattle.listing.specs.Machine.{Machine}
-use Rattle.listing.specs.Runs.{Run, stops, fails, gives, Walks, at-end, at-refusal, at-item}
 use Rattle.listing.specs.Stream.{Stream, out, bad, one, streamAt}
 use Rattle.listing.proofs.Streams.{behind}
 use Rattle.refusal.specs.Numbers.{numberOf}
 use Rattle.refusal.specs.declared.Refusal.the-variants.{StateOutOfRange}
+use Rattle.runs.specs.Runs.{Run, stops, fails, gives, Walks, at-end, at-refusal, at-item}
 
 -- ---- states from which a walk goes on
 
@@ -95,11 +95,11 @@ module _ (M : Machine) (s : List ℕ) (size : ℕ) (sized : isPointerSize size �
   -- calls from a given state that has read up to a place say what the operations from there on do
   abbrev From : (at : ℕ) → Stream (M .Op) → Type 0
   From at xs =
-      (w : State (M .Reg)) (a o : ℕ) (g : M .Reg) → call M s w ≡ read M w xs (state (live size at 0 a o) g) → Walks M s w (runOps M size xs g o)
+      (w : State (M .Reg)) (a o : ℕ) (g : M .Reg) → call M s w ≡ read M w xs (state (live size at 0 a o) g) → Walks (call M s) w (runOps M size xs g o)
 
   module _ (at : ℕ) (inside : at ≤ length s) (xs : Stream (M .Op)) (same : streamAt M s at ≡ xs) (h : From at xs) (g : M .Reg) where
     -- places of a repeat that are left
-    walks-places : (a : ℕ) → M .lack g ≡ Nothing → (n o : ℕ) → Walks M s (state (live size at n a o) g) (runs M g o a n (runOps M size xs g))
+    walks-places : (a : ℕ) → M .lack g ≡ Nothing → (n o : ℕ) → Walks (call M s) (state (live size at n a o) g) (runs M g o a n (runOps M size xs g))
     unfolding runs due
     walks-places a k zero o =
         let w = state (live size at 0 a o) g in
@@ -112,13 +112,13 @@ module _ (M : Machine) (s : List ℕ) (size : ℕ) (sized : isPointerSize size �
         (walks-places a k n ((o + a) % 2 ^ 64))
 
     walks-due : (w : State (M .Reg)) (o n a : ℕ) (l : Lack) → M .lack g ≡ l →
-        call M s w ≡ due M w o (state (live size at n a ((o + a) % 2 ^ 64)) g) l → Walks M s w (runDue M g o a (suc n) (runOps M size xs g) l)
+        call M s w ≡ due M w o (state (live size at n a ((o + a) % 2 ^ 64)) g) l → Walks (call M s) w (runDue M g o a (suc n) (runOps M size xs g) l)
     unfolding runDue runs due
     walks-due w o n a Nothing k q = at-item q (walks-places a k n ((o + a) % 2 ^ 64))
     walks-due w o n a (Lacks e) k q = at-refusal q
 
     walks-turn : (w : State (M .Reg)) (place a o : ℕ) (t : Turn) →
-        call M s w ≡ answered M w o g (read M w xs) (movedBy (live size place 0 a o) at t) → Walks M s w (runTurn M g o (runOps M size xs) t)
+        call M s w ≡ answered M w o g (read M w xs) (movedBy (live size place 0 a o) at t) → Walks (call M s) w (runTurn M g o (runOps M size xs) t)
     unfolding runTurn answered movedBy
     walks-turn w place a o (On to) q = h w a to g q
     walks-turn w place a o Anew q = h w 0 0 g q
@@ -156,7 +156,7 @@ module _ (M : Machine) (s : List ℕ) where
         call-by M s w (stands (suc n) k)
         ∙ ap (λ (d : Cursor). due M w (c .offset) (state d (w .registers)) (M .lack (w .registers))) (is-live (behindPlace c n (c .advance)) e)
 
-    walks-live : (n : ℕ) → w .cursor .remaining ≡ n → Walks M s w (runBy M s w (liveStanding (w .cursor) n))
+    walks-live : (n : ℕ) → w .cursor .remaining ≡ n → Walks (call M s) w (runBy M s w (liveStanding (w .cursor) n))
     walks-live zero k =
         let c = w .cursor in
         walks-read M s (c .size) (r .sized) (streamAt M s (c .at)) (c .at) refl w (c .advance) (c .offset) (w .registers) (call-reads k)
@@ -167,27 +167,12 @@ module _ (M : Machine) (s : List ℕ) where
         w (c .offset) n (c .advance) (M .lack (w .registers)) refl (call-due k)
 
   -- every state has a run
-  pub walks-all : (w : State (M .Reg)) → Walks M s w (runOf M s w)
+  pub walks-all : (w : State (M .Reg)) → Walks (call M s) w (runOf M s w)
   unfolding runOf standingOf
   walks-all w = by-tests (inRange (w .cursor) (length s)) refl (w .cursor .ended) refl
     where
       by-tests : (b : Bool) → inRange (w .cursor) (length s) ≡ b → (d : Bool) → w .cursor .ended ≡ d →
-          Walks M s w (runBy M s w (cond b (cond d standing.Ended (liveStanding (w .cursor) (w .cursor .remaining))) standing.OutOfRange))
+          Walks (call M s) w (runBy M s w (cond b (cond d standing.Ended (liveStanding (w .cursor) (w .cursor .remaining))) standing.OutOfRange))
       by-tests false e d f = at-refusal {w = w} {v = w} {e = 19} (call-by M s w {x = standing.OutOfRange} (simp e))
       by-tests true e true f = at-end {w = w} {v = w} (call-by M s w {x = standing.Ended} (simp (e, f)))
       by-tests true e false f = walks-live w (in-range (w .cursor) (length s) e) f (w .cursor .remaining) refl
-
-  -- and one only
-  pub walks-one : {w : State (M .Reg)} {r q : Run (M .Item)} → Walks M s w r → Walks M s w q → r ≡ q
-  walks-one (at-end e) (at-end f) = refl
-  walks-one (at-end e) (at-refusal f) = cc
-  walks-one (at-end e) (at-item f q) = cc
-  walks-one (at-refusal e) (at-end f) = cc
-  walks-one (at-refusal e) (at-refusal f) = cc
-  walks-one (at-refusal e) (at-item f q) = cc
-  walks-one (at-item e p) (at-end f) = cc
-  walks-one (at-item e p) (at-refusal f) = cc
-  walks-one (at-item {v = v} {x = x} e p) (at-item {v = u} {x = y} {r = r} f q) =
-      let d : u ≡ v = cc in
-      let c : x ≡ y = cc in
-      ap₂ gives c (walks-one p (subst (λ (a : State (M .Reg)). Walks M s a r) d q))

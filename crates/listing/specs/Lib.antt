@@ -2,4 +2,3 @@ pub mod Machine
 pub mod Stream
 pub mod Listing
 pub mod Call
-pub mod Runs

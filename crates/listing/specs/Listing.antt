@@ -1,4 +1,5 @@
--- What a stream lists: its entries in order, each with the byte position of its operation and its index in the repeat, and how it ends.
+-- What a stream lists: its entries in order, each with the byte position of its operation and its index in the repeat, and how it ends;
+-- and what of it a caller hears.
 use Prim.Native.Nat.{ℕ, zero, suc}
 use mathlib.Core.List.{List}
 use Rattle.cursor.specs.Motion.{turnOf}
@@ -10,6 +11,7 @@ use Rattle.listing.specs.Machine.{Machine}
 use Rattle.listing.specs.Stream.{Stream, out, bad, one, streamAt}
 use Rattle.places.specs.Places.{placeAt}
 use Rattle.refusal.specs.Numbers.{numberOf}
+use Rattle.runs.specs.Runs.{Run, stops, fails, gives}
 
 pub data Listing (Item : Type 0) : Type 0 where
   ends : (operations : ℕ) → Listing Item  -- so many were read
@@ -48,3 +50,9 @@ module _ (M : Machine) where
   -- what a stream lists, by the pointer size and the registers of the start
   unfoldable pub listing : (size : ℕ) → M .Reg → List ℕ → Listing (M .Item)
   listing size g s = listingOf size (streamAt M s 0) 0 g 0
+
+-- a listing as a caller hears it: of positions, indexes and operations nothing is said
+unfoldable pub heard : {Item : Type 0} → Listing Item → Run Item
+heard (ends operations) = stops
+heard (refuses number position) = fails number
+heard (lists position index x rest) = gives x (heard rest)

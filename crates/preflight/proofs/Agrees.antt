@@ -4,12 +4,12 @@ use mathlib.Core.Path.{_≡_, refl, ap, sym, _∙_}
 use mathlib.Core.Bool.{Bool, true, false}
 use mathlib.Core.List.{List}
 use Rattle.listing.proofs.Joined.{joined-only, begun-sized}
-use Rattle.listing.specs.Call.{State, begun, begin}
-use Rattle.listing.specs.Listing.{Listing, ends, refuses, lists, listing}
+use Rattle.listing.specs.Call.{State, begin, call}
+use Rattle.listing.specs.Listing.{Listing, ends, refuses, lists, listing, heard}
 use Rattle.listing.specs.Machine.{Machine}
-use Rattle.listing.specs.Runs.{Run, Walks, heard}
 use Rattle.refusal.specs.Numbers.{numberOf}
 use Rattle.refusal.specs.declared.Refusal.the-variants.{PlaceOutside}
+use Rattle.runs.specs.Runs.{begun, Run, Walks}
 use Rattle.preflight.specs.Verdict.{Verdict, fault, inside, verdict, fitSizes, withSizes, preflight}
 use Rattle.preflight.specs.Walked.{Outcome, faulty, outcome, walked}
 
@@ -28,7 +28,7 @@ module _ (M : Machine) (size : ℕ) (sizes : List ℕ) where
 
   -- for sizes that are fit, and calls from a start on: the preflight passes exactly if they end without refusal with each item inside, and
   -- else names what comes first
-  pub agrees : (g : M .Reg) (s : List ℕ) (w : State (M .Reg)) → begin size g ≡ begun w → fitSizes sizes ≡ true → (r : Run (M .Item)) → Walks M s w r →
+  pub agrees : (g : M .Reg) (s : List ℕ) (w : State (M .Reg)) → begin size g ≡ begun w → fitSizes sizes ≡ true → (r : Run (M .Item)) → Walks (call M s) w r →
       outcome (preflight M g size sizes s) ≡ walked M size sizes r
   unfolding preflight withSizes
   agrees g s w e fit r walks =

@@ -13,13 +13,14 @@ use Rattle.cursor.specs.declared.Lack.{Lack}
 use Rattle.cursor.specs.declared.Motion.{Motion}
 use Rattle.cursor.specs.declared.Start.the-variants as start
 use Rattle.listing.proofs.Streams.{ends-within, fewer-left, stream-by}
-use Rattle.listing.specs.Call.{Begin, begun, notBegun, beginFrom, begin}
+use Rattle.listing.specs.Call.{State, beginFrom, begin}
 use Rattle.listing.specs.Listing.{listed, listingOf, listing}
 use Rattle.listing.specs.Machine.{Effect, _and_, Machine}
 use Rattle.listing.specs.Stream.{Stream, before, streamAt}
 use Rattle.operations.specs.Table.{Parsed, operation, operationAt}
 use Rattle.refusal.specs.Numbers.{numberOf}
 use Rattle.refusal.specs.declared.Refusal.the-variants.{PointerSize, UnfitSizes}
+use Rattle.runs.specs.Runs.{Begin, begun, notBegun}
 use Rattle.preflight.specs.Flown.{flownOf}
 use Rattle.preflight.specs.Verdict.{Verdict, fault, verdict, fitSizes, withSizes, preflight}
 use Rattle.preflight.specs.declared.flight.Flown.{Flown}
@@ -90,7 +91,7 @@ module _ {M : Machine} (P : Placed M) {size : ℕ} {sizes s : List ℕ} {v : Ver
 -- ---- the start, by what the walk's start is
 
 module _ (M : Machine) (g : M .Reg) (size : ℕ) (sizes s : List ℕ) where
-  abbrev pub startingWith : Begin (M .Reg) → Verdict
+  abbrev pub startingWith : Begin (State (M .Reg)) → Verdict
   startingWith (begun w) = withSizes M (w .registers) size sizes s
   startingWith (notBegun number) = fault number 0 0
 
@@ -105,6 +106,6 @@ module _ (M : Machine) (g : M .Reg) (size : ℕ) (sizes s : List ℕ) where
       by-size false = refl
 
 -- `told` is what a kind of walk says of its starts
-pub start-as : (M : Machine) (g : M .Reg) {Start : Type 0} (told : Start → Begin (M .Reg)) (size : ℕ) (sizes s : List ℕ) {x q : Start} {y : Verdict} →
+pub start-as : (M : Machine) (g : M .Reg) {Start : Type 0} (told : Start → Begin (State (M .Reg))) (size : ℕ) (sizes s : List ℕ) {x q : Start} {y : Verdict} →
     told x ≡ begin size g → x ≡ q → y ≡ startingWith M g size sizes s (told q) → y ≡ preflight M g size sizes s
 start-as M g told size sizes s e f h = h ∙ ap (startingWith M g size sizes s) (ap told (sym f) ∙ e) ∙ starting M g size sizes s

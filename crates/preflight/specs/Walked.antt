@@ -3,9 +3,9 @@ use Prim.Native.Nat.{ℕ}
 use mathlib.Core.Bool.{true, false}
 use mathlib.Core.List.{List}
 use Rattle.listing.specs.Machine.{Machine}
-use Rattle.listing.specs.Runs.{Run, stops, fails, gives}
 use Rattle.refusal.specs.Numbers.{numberOf}
 use Rattle.refusal.specs.declared.Refusal.the-variants.{PlaceOutside}
+use Rattle.runs.specs.Runs.{Run, stops, fails, gives}
 use Rattle.preflight.specs.Verdict.{Verdict, pass, fault, inside}
 
 pub data Outcome : Type 0 where

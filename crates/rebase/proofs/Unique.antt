@@ -1,10 +1,11 @@
 -- What an answer says determines it: `told` and `startTold` lose nothing, so the contracts of starts and steps leave one answer and one
 -- state each. Assumes nothing.
 use mathlib.Core.Path.{_≡_, refl, ap}
-use Rattle.listing.specs.Call.{State, Begin, begun, notBegun, Answer, item, end, refused}
+use Rattle.listing.specs.Call.{State}
 use Rattle.refusal.proofs.Numbered.{refusalOf, refusal-back}
 use Rattle.refusal.proofs.Unique.{one-each}
 use Rattle.refusal.specs.declared.Refusal.{Refusal}
+use Rattle.runs.specs.Runs.{Begin, begun, notBegun, Answer, item, end, refused}
 use Rattle.rebase.specs.Told.{startTold, told}
 use Rattle.rebase.specs.declared.Rebase.{Rebase}
 use Rattle.rebase.specs.declared.RebaseStart.{RebaseStart}
@@ -17,11 +18,11 @@ use Rattle.rebase.specs.declared.Registers.{Registers}
 abbrev walkOf : State Registers → RebaseWalk
 walkOf w = record { cursor = w .cursor; registers = w .registers }
 
-abbrev startOf : Begin Registers → RebaseStart
+abbrev startOf : Begin (State Registers) → RebaseStart
 startOf (begun w) = start.Begun (walkOf w)
 startOf (notBegun n) = start.Refused (refusalOf n)
 
-abbrev stepOf : Answer Registers Rebase → RebaseStep
+abbrev stepOf : Answer (State Registers) Rebase → RebaseStep
 stepOf (item x w) = step.Item x (walkOf w)
 stepOf (end w) = step.End (walkOf w)
 stepOf (refused n w) = step.Refused (refusalOf n) (walkOf w)

@@ -8,9 +8,9 @@ use Rattle.cursor.specs.Cursor.{inRange}
 use Rattle.listing.proofs.Joined as joins
 use Rattle.listing.proofs.Kept as keeps
 use Rattle.listing.proofs.Resumed as resumes
-use Rattle.listing.specs.Call.{begun, begin, end, refused, call}
-use Rattle.listing.specs.Listing.{listing}
-use Rattle.listing.specs.Runs.{Run, Walks, heard}
+use Rattle.listing.specs.Call.{begin, call}
+use Rattle.listing.specs.Listing.{listing, heard}
+use Rattle.runs.specs.Runs.{begun, end, refused, Run, Walks}
 use Rattle.rebase.specs.Rebases.{unset, rebases}
 use Rattle.rebase.specs.Told.{view}
 use Rattle.rebase.specs.declared.Rebase.{Rebase}
@@ -18,10 +18,10 @@ use Rattle.rebase.specs.declared.RebaseWalk.{RebaseWalk}
 
 module _ (s : List ℕ) (w : RebaseWalk) where
   -- calls from a start on say what the stream lists
-  pub joined : (size : ℕ) → begin size unset ≡ begun (view w) → Walks rebases s (view w) (heard (listing rebases size unset s))
+  pub joined : (size : ℕ) → begin size unset ≡ begun (view w) → Walks (call rebases s) (view w) (heard (listing rebases size unset s))
   joined size = joins.joined rebases s size unset (view w)
 
-  pub joined-only : (size : ℕ) → begin size unset ≡ begun (view w) → (r : Run Rebase) → Walks rebases s (view w) r → r ≡ heard (listing rebases size unset s)
+  pub joined-only : (size : ℕ) → begin size unset ≡ begun (view w) → (r : Run Rebase) → Walks (call rebases s) (view w) r → r ≡ heard (listing rebases size unset s)
   joined-only size = joins.joined-only rebases s size unset (view w)
 
   -- after End a call goes on behind what this one read: behind a Done, or where no bytes are left

@@ -2,8 +2,7 @@
 use mathlib.Core.Path.{_≡_, refl}
 use mathlib.Core.List.{map}
 use Rattle.cursor.specs.Motion.{turnOf}
-use Rattle.listing.specs.Listing.{places, repeated, listed, listingOf, listing}
-use Rattle.listing.specs.Runs.{heard}
+use Rattle.listing.specs.Listing.{places, repeated, listed, listingOf, listing, heard}
 use Rattle.listing.specs.Stream.{before, streamIn, streamAt}
 use Rattle.numbers.specs.Digits.{fromDigits}
 use Rattle.numbers.specs.Leb128.{ulebAt, slebAt}

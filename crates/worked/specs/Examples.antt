@@ -6,8 +6,7 @@ use lib.ListN.{length}
 use Rattle.bind.specs.Binds.{binds}
 use Rattle.bind.specs.Binds as bind
 use Rattle.bind.specs.declared.Bind.{Bind}
-use Rattle.listing.specs.Listing.{listing}
-use Rattle.listing.specs.Runs.{Run, stops, fails, gives, heard}
+use Rattle.listing.specs.Listing.{listing, heard}
 use Rattle.numbers.specs.declared.Number.{Number}
 use Rattle.numbers.specs.declared.Number.the-variants.{Value as UnsignedValue}
 use Rattle.numbers.specs.declared.leb128.Signed.{Signed}
@@ -18,6 +17,7 @@ use Rattle.preflight.specs.Verdict.{Verdict, pass, fault, preflight}
 use Rattle.rebase.specs.Rebases.{rebases}
 use Rattle.rebase.specs.Rebases as rebase
 use Rattle.rebase.specs.declared.Rebase.{Rebase}
+use Rattle.runs.specs.Runs.{Run, stops, fails, gives}
 
 -- a place of a rebase stream
 abbrev pub place : (segment offset kind : ℕ) → Rebase
