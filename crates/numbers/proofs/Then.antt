@@ -29,6 +29,14 @@ module _ {A : Type 0} (x : Number) (faulty : A) (go : ℕ → ℕ → A) where
       by (number.Value v next) g = g v next refl
       by number.Fault g = bad
 
+-- what holds of two definitions that go by one read
+module _ {A B : Type 0} (R : A → B → Type 0) where
+  pub both-numbers : (x : Number) (e : A) (go : ℕ → ℕ → A) (d : B) (to : ℕ → ℕ → B) → R e d → ((v next : ℕ) → x ≡ number.Value v next → R (go v next) (to v next)) →
+      R (thenNumber x e go) (thenNumber x d to)
+  unfolding thenNumber
+  both-numbers (number.Value v next) e go d to p q = q v next refl
+  both-numbers number.Fault e go d to p q = p
+
 module _ {A : Type 0} (x : Signed) (faulty : A) (go : ℤ → ℕ → A) where
   module _ {r : Signed} (e : r ≡ x) where
     pub signed-read : {v : ℤ} {next : ℕ} {y : A} → r ≡ signed.Value v next → y ≡ go v next → y ≡ thenSigned x faulty go

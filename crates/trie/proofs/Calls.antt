@@ -7,8 +7,8 @@ use native.Mathlib.Omega.{arith}
 use borrow.Author.Tests.{ltb-false}
 use lib.Dec.{ltb}
 use lib.ListN.{length}
+use Rattle.numbers.proofs.Picks.{neither}
 use Rattle.trie.proofs.Course.{ended-stays, goes-on}
-use Rattle.trie.proofs.Searches.{neither}
 use Rattle.refusal.specs.Numbers.{numberOf}
 use Rattle.refusal.specs.declared.Refusal.the-variants.{FaultyNode, StateOutOfRange}
 use Rattle.trie.specs.Call.{marked, opened, refused, end, Reply, replied, visited, onward, visitRoot, goOn, call}

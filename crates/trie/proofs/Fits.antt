@@ -9,12 +9,12 @@ use borrow.Author.Tests.{ltb-false, le-ltb}
 use lib.Dec.{ltb}
 use lib.ListN.{length, getD, set, List·getD-eq-default}
 use lib.Seq.{getD-set-same, getD-set-other, set-out}
+use Rattle.numbers.proofs.Picks.{neither}
 use Rattle.numbers.proofs.Laws.{part-length}
 use Rattle.numbers.specs.Parts.{partOf}
 use Rattle.trie.proofs.Ahead.{put-length}
 use Rattle.trie.proofs.Children.{EdgeIn, edge-in, node-in, Read, child-read}
 use Rattle.trie.proofs.Course.{next, next-by, IfReached, InRange}
-use Rattle.trie.proofs.Searches.{neither}
 use Rattle.trie.proofs.Visits.{still-at-most}
 use Rattle.trie.specs.Call.{closed, onTop, opened, childOf, childName, childOpened, edgePut}
 use Rattle.trie.specs.ExportsTrie.{nodeAt}

@@ -1,4 +1,3 @@
-pub mod Picks
 pub mod Nodes
 pub mod Searches
 pub mod Puts

@@ -92,7 +92,3 @@ module _ (places lengths : List ℕ) (d bytes room : ℕ) where
     name-out f g = rw (le-ltb 256 d h, sym e ∙ f) g
 
 pub ruleset ranging = (too-many, place-out, name-out)
-
-pub neither : (x y : Bool) → x || y ≡ false → (x ≡ false) × (y ≡ false)
-neither true y e = absurd (true≢false e)
-neither false y e = (refl, e)

@@ -1,2 +1,3 @@
 pub mod Hold
 pub mod Tries
+pub mod Fixups

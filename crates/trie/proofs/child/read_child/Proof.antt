@@ -1,6 +1,6 @@
 -- `trie::child::read_child` meets its contract. Assumes nothing.
 use Rattle.trie.proofs.Nodes.{child-reads}
-use Rattle.trie.proofs.Picks.{asked}
+use Rattle.numbers.proofs.Picks.{asked}
 use Rattle.trie.specs.Child.{childAt}
 use borrow.Author.Needs.{needs}
 use Rattle.trie.proofs.child.read_child.Statement.{statement}

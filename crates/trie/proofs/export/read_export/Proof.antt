@@ -1,6 +1,6 @@
 -- `trie::export::read_export` meets its contract. Assumes nothing.
 use Rattle.numbers.proofs.Then.{reads}
-use Rattle.trie.proofs.Picks.{picks}
+use Rattle.numbers.proofs.Picks.{picks}
 use Rattle.trie.specs.ExportsTrie.{exportAt}
 use borrow.Author.Needs.{needs}
 use Rattle.trie.proofs.export.read_export.Statement.{statement}

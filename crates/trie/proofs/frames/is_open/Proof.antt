@@ -1,5 +1,5 @@
 -- `trie::frames::is_open` meets its contract. Assumes nothing.
-use Rattle.trie.proofs.Picks.{picks}
+use Rattle.numbers.proofs.Picks.{picks}
 use Rattle.trie.proofs.Searches.{Looking, looking}
 use borrow.Author.Needs.{needs}
 use lib.Dec.{eqb}

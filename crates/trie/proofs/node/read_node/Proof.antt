@@ -1,7 +1,7 @@
 -- `trie::node::read_node` meets its contract. Assumes nothing.
 use Rattle.numbers.proofs.Then.{reads}
 use Rattle.trie.proofs.Nodes.{area-laws}
-use Rattle.trie.proofs.Picks.{picks}
+use Rattle.numbers.proofs.Picks.{picks}
 use Rattle.trie.specs.ExportsTrie.{nodeAt}
 use borrow.Author.Needs.{needs}
 use Rattle.trie.proofs.node.read_node.Statement.{statement}

@@ -1,6 +1,6 @@
 -- What a definition picks by a test, from what the code's test told: for `search`. Assumes nothing.
-use mathlib.Core.Path.{_≡_, sym, _∙_}
-use mathlib.Core.Bool.{Bool, true, false, cond}
+use mathlib.Core.Path.{_≡_, refl, sym, _∙_}
+use mathlib.Core.Bool.{Bool, true, false, cond, _||_, true≢false}
 use borrow.Author.Tests.{lt-ltb, le-ltb, le-leb, lt-leb, eq-eqb, ne-eqb}
 
 module _ {A : Type 0} (t : Bool) (a b : A) {y : A} where
@@ -21,3 +21,17 @@ module _ {A : Type 0} (t : Bool) (a b : A) {r : Bool} (e : r ≡ t) {y : A} wher
 pub ruleset asked = (asked-yes, asked-no)
 
 pub ruleset picks = (pick-yes, pick-no, lt-ltb, le-ltb, le-leb, lt-leb, eq-eqb, ne-eqb)
+
+pub neither : (x y : Bool) → x || y ≡ false → (x ≡ false) × (y ≡ false)
+neither true y e = absurd (true≢false e)
+neither false y e = (refl, e)
+
+-- what holds of both, holds of what is picked
+pub by-pick : {A : Type 0} (P : A → Type 0) (t : Bool) (a b : A) → P a → P b → P (cond t a b)
+by-pick P true a b p q = p
+by-pick P false a b p q = q
+
+-- what holds of two definitions that pick by one test
+pub both-picks : {A B : Type 0} (R : A → B → Type 0) (t : Bool) (a b : A) (c d : B) → (t ≡ true → R a c) → R b d → R (cond t a b) (cond t c d)
+both-picks R true a b c d p q = p refl
+both-picks R false a b c d p q = q

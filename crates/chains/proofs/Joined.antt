@@ -1,0 +1,106 @@
+-- Calls from a start on, each behind what the last refused, say what the starts list, and nothing else. Assumes nothing.
+use Prim.Native.Nat.{ℕ, zero, suc, _+_, _-_, _*_}
+use mathlib.Core.Path.{_≡_, refl, ap, sym, _∙_, subst}
+use mathlib.Core.Bool.{Bool, true, false, cond}
+use mathlib.Core.List.{List}
+use native.Mathlib.Omega.{arith}
+use borrow.Author.Tests.{leb-true, le-ltb}
+use lib.Dec.{leb, ltb, eqb}
+use lib.ListN.{length}
+use Rattle.chains.proofs.Headers.{both-headers}
+use Rattle.chains.specs.Call.{atStart, begin, atIndex, recorded, seek, call}
+use Rattle.chains.specs.FixupChains.{headerAt, offsetAt, recordAt}
+use Rattle.chains.specs.Heard.{heard, hear}
+use Rattle.chains.specs.Listing.{Entry, entry, segments, listing}
+use Rattle.chains.specs.declared.SegmentWalk.{SegmentWalk}
+use Rattle.chains.specs.declared.record.Record.{Record}
+use Rattle.chains.specs.declared.record.Record.the-variants.{Found, Fault}
+use Rattle.numbers.proofs.Picks.{by-pick, both-picks}
+use Rattle.numbers.proofs.Rows.{field-ends}
+use Rattle.numbers.proofs.Then.{both-numbers}
+use Rattle.numbers.specs.LittleEndian.{fieldAt}
+use Rattle.runs.proofs.Walks.{shown, Stays, walks-ahead, walks-one}
+use Rattle.runs.specs.Runs.{Begin, begun, notBegun, Run, fails, gives, Walks}
+
+module _ (s : List ℕ) where
+  abbrev Inside : SegmentWalk → Type 0
+  Inside w = ltb (length s) (w .place + 4 + 4 * w .count) ≡ false
+
+  -- what is ahead of a state
+  abbrev ahead : SegmentWalk → Run Entry
+  ahead w = segments s (w .place) (w .count - w .index) (w .index)
+
+  module _ (w : SegmentWalk) where
+    says-record : (n i : ℕ) → n ≡ w .count - (i + 1) → (x : Record) → gives (entry x) (segments s (w .place) n (i + 1)) ≡ shown ahead (heard (recorded (atIndex (i + 1) w) x))
+    unfolding recorded
+    says-record n i e (Found x) = ap (λ (m : ℕ). gives (entry (Found x)) (segments s (w .place) m (i + 1))) e
+    says-record n i e Fault = ap (λ (m : ℕ). gives (entry Fault) (segments s (w .place) m (i + 1))) e
+
+    says-seek : (n i : ℕ) → w .count - i ≡ n → segments s (w .place) n i ≡ shown ahead (heard (seek s w n i))
+    unfolding segments seek
+    says-seek zero i e = refl
+    says-seek (suc n) i e = by (eqb (offsetAt s (w .place) i) 0) (says-seek n (i + 1) (omega arith))
+      where
+        by : (t : Bool) → segments s (w .place) n (i + 1) ≡ shown ahead (heard (seek s w n (i + 1))) →
+            cond t (segments s (w .place) n (i + 1)) (gives (entry (recordAt s i (w .place + offsetAt s (w .place) i))) (segments s (w .place) n (i + 1)))
+            ≡ shown ahead (heard (cond t (seek s w n (i + 1)) (recorded (atIndex (i + 1) w) (recordAt s i (w .place + offsetAt s (w .place) i)))))
+        by true later = later
+        by false later = says-record n i (omega arith) (recordAt s i (w .place + offsetAt s (w .place) i))
+
+    stays-record : (i : ℕ) → Inside w → (x : Record) → Stays Inside (heard (recorded (atIndex i w) x))
+    unfolding recorded
+    stays-record i h (Found x) = h
+    stays-record i h Fault = h
+
+    stays-seek : (n i : ℕ) → Inside w → Stays Inside (heard (seek s w n i))
+    unfolding seek
+    stays-seek zero i h = tt
+    stays-seek (suc n) i h =
+        by-pick (λ a. Stays Inside (heard a)) (eqb (offsetAt s (w .place) i) 0) _ _ (stays-seek n (i + 1) h)
+        (stays-record (i + 1) h (recordAt s i (w .place + offsetAt s (w .place) i)))
+
+    inside-call : Inside w → call s w ≡ seek s w (w .count - w .index) (w .index)
+    unfolding call
+    inside-call h = rw h
+
+    says : Inside w → ahead w ≡ shown ahead (hear s w)
+    says h = says-seek (w .count - w .index) (w .index) refl ∙ ap (λ a. shown ahead (heard a)) (sym (inside-call h))
+
+    stays : Inside w → Stays Inside (hear s w)
+    stays h = subst (λ a. Stays Inside (heard a)) (sym (inside-call h)) (stays-seek (w .count - w .index) (w .index) h)
+
+  -- ---- a start
+
+  record Begins (w : SegmentWalk) (r : Run Entry) : Type 0 where
+    inside : Inside w
+    all : r ≡ ahead w
+
+  abbrev Starts : Begin SegmentWalk → Run Entry → Type 0
+  Starts (begun w) r = Begins w r
+  Starts (notBegun n) r = r ≡ fails n
+
+  starts : Starts (begin s) (listing s)
+  unfolding begin listing
+  starts =
+      both-headers Starts (headerAt s) _ _ _ _ (λ n. refl)
+      (λ h.
+      both-numbers Starts (fieldAt 4 s (h .starts)) _ _ _ _ refl
+      (λ count at e.
+      both-picks Starts (leb (at + 4 * count) (length s)) _ _ _ _
+      (λ f.
+      record {
+        inside = le-ltb (length s) (h .starts + 4 + 4 * count) (omega (arith, leb-true (at + 4 * count) (length s) f, field-ends 4 s (h .starts) refl e));
+        all = let z : count ≡ count - 0 = omega arith in ap (λ (n : ℕ). segments s (h .starts) n 0) z;
+      })
+      refl))
+
+  pub joined : (w : SegmentWalk) → begin s ≡ begun w → Walks (hear s) w (listing s)
+  joined w e =
+      let b = subst (λ (x : Begin SegmentWalk). Starts x (listing s)) e starts in
+      subst (Walks (hear s) w) (sym (b .all)) (walks-ahead (hear s) ahead Inside says stays w (b .inside))
+
+  pub joined-only : (w : SegmentWalk) {r : Run Entry} → begin s ≡ begun w → Walks (hear s) w r → r ≡ listing s
+  joined-only w e h = walks-one (hear s) h (joined w e)
+
+  pub not-begun : {n : ℕ} → begin s ≡ notBegun n → listing s ≡ fails n
+  not-begun e = subst (λ (x : Begin SegmentWalk). Starts x (listing s)) e starts

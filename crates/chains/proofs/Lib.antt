@@ -1,0 +1,6 @@
+pub mod Headers
+pub mod Records
+pub mod Starts
+pub mod Seeks
+pub mod Joined
+pub mod Unique

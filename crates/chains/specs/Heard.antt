@@ -1,0 +1,20 @@
+-- A call as one hears it who goes on behind a segment that is refused: that is an entry too.
+use Prim.Native.Nat.{ℕ}
+use mathlib.Core.Bool.{cond}
+use mathlib.Core.List.{List}
+use lib.Dec.{eqb}
+use Rattle.chains.specs.Call.{call}
+use Rattle.chains.specs.Listing.{Entry, segment, refusal}
+use Rattle.chains.specs.declared.Segment.{Segment}
+use Rattle.chains.specs.declared.SegmentWalk.{SegmentWalk}
+use Rattle.refusal.specs.Numbers.{numberOf}
+use Rattle.refusal.specs.declared.Refusal.the-variants.{FaultyChains}
+use Rattle.runs.specs.Runs.{Answer, item, end, refused}
+
+abbrev pub heard : Answer SegmentWalk Segment → Answer SegmentWalk Entry
+heard (item x w) = item (segment x) w
+heard (end w) = end w
+heard (refused number w) = cond (eqb number (numberOf FaultyChains)) (item (refusal number) w) (refused number w)
+
+abbrev pub hear : List ℕ → SegmentWalk → Answer SegmentWalk Entry
+hear s w = heard (call s w)

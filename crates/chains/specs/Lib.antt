@@ -1,0 +1,5 @@
+pub mod FixupChains
+pub mod Listing
+pub mod Call
+pub mod Told
+pub mod Heard

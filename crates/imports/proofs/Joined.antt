@@ -1,0 +1,112 @@
+-- Calls from a start on say what the bytes list, and nothing else; where the start is refused, they list that refusal. Assumes nothing.
+use Prim.Native.Nat.{ℕ, zero, suc}
+use mathlib.Core.Path.{_≡_, refl, ap, sym, _∙_, subst}
+use mathlib.Core.Bool.{Bool, true, false, cond}
+use mathlib.Core.List.{List}
+use borrow.Author.Tests.{leb-true}
+use lib.Dec.{leb, eqb}
+use lib.ListN.{length}
+use Rattle.chains.proofs.Headers.{both-headers}
+use Rattle.chains.specs.FixupChains.{headerAt}
+use Rattle.imports.specs.Call.{begin, imported, next, call}
+use Rattle.imports.specs.ChainedImports.{importAt}
+use Rattle.imports.specs.Listing.{before, imports, listing}
+use Rattle.imports.specs.declared.Import.{Import}
+use Rattle.imports.specs.declared.ImportWalk.{ImportWalk}
+use Rattle.imports.specs.declared.record.ImportRead.{ImportRead}
+use Rattle.imports.specs.declared.record.ImportRead.the-variants.{Found, Refused}
+use Rattle.numbers.proofs.Picks.{both-picks}
+use Rattle.runs.proofs.Walks.{shown, Stays, walks-ahead, walks-one}
+use Rattle.runs.specs.Runs.{Begin, begun, notBegun, end, Run, fails, Walks}
+use Rattle.imports.proofs.Calls.{InRange}
+use Rattle.imports.proofs.Inside.{IfImport, import-inside}
+use Rattle.imports.proofs.Kept.{in-range-call}
+
+module _ (s : List ℕ) where
+  -- a walk that goes on
+  record Going (w : ImportWalk) : Type 0 where
+    range : InRange (w .place) (w .symbols) (length s)
+    live : w .ended ≡ false
+
+  -- what is ahead of a state
+  abbrev ahead : ImportWalk → Run Import
+  ahead w = imports s (w .format) (w .symbols) (w .left) (w .place)
+
+  -- ---- a call
+
+  module _ (w : ImportWalk) where
+    going-call : Going w → call s w ≡ next s w (w .left)
+    going-call g =
+        in-range-call s w (g .range) ∙ ap (λ (t : Bool). cond t (end w) (next s w (w .left))) (g .live)
+
+    says-read : (n : ℕ) (x : ImportRead) → before (imports s (w .format) (w .symbols) n) x ≡ shown ahead (imported w n x)
+    unfolding before imported
+    says-read n (Found x at) = refl
+    says-read n (Refused e) = refl
+
+    says-next : (n : ℕ) → imports s (w .format) (w .symbols) n (w .place) ≡ shown ahead (next s w n)
+    unfolding imports next
+    says-next zero = refl
+    says-next (suc n) = says-read n (importAt s (w .format) (w .symbols) (w .place))
+
+    says : Going w → ahead w ≡ shown ahead (call s w)
+    says g = says-next (w .left) ∙ ap (shown ahead) (sym (going-call g))
+
+    stays-read : Going w → (n : ℕ) (x : ImportRead) → IfImport s x → Stays Going (imported w n x)
+    unfolding imported
+    stays-read g n (Found x at) i =
+        record { range = record { place-in = i .ends; symbols-in = g .range .symbols-in }; live = g .live }
+    stays-read g n (Refused e) i = tt
+
+    stays-next : Going w → (n : ℕ) → Stays Going (next s w n)
+    unfolding next
+    stays-next g zero = tt
+    stays-next g (suc n) =
+        stays-read g n (importAt s (w .format) (w .symbols) (w .place)) (import-inside s (w .format) (w .symbols) (w .place))
+
+    stays : Going w → Stays Going (call s w)
+    stays g = subst (Stays Going) (sym (going-call g)) (stays-next g (w .left))
+
+  -- ---- a start
+
+  record Begins (w : ImportWalk) (r : Run Import) : Type 0 where
+    going : Going w
+    all : r ≡ ahead w
+
+  abbrev Starts : Begin ImportWalk → Run Import → Type 0
+  Starts (begun w) r = Begins w r
+  Starts (notBegun n) r = r ≡ fails n
+
+  starts : Starts (begin s) (listing s)
+  unfolding begin listing
+  starts =
+      both-headers Starts (headerAt s) _ _ _ _ (λ n. refl)
+      (λ h.
+      both-picks Starts (eqb (h .packing) 0) _ _ _ _
+      (λ e.
+      both-picks Starts (leb (h .imports) (length s)) _ _ _ _
+      (λ i.
+      both-picks Starts (leb (h .symbols) (length s)) _ _ _ _
+      (λ j.
+      record {
+        going =
+            record {
+              range = record { place-in = leb-true (h .imports) (length s) i; symbols-in = leb-true (h .symbols) (length s) j };
+              live = refl;
+            };
+        all = refl;
+      })
+      refl)
+      refl)
+      refl)
+
+  pub joined : (w : ImportWalk) → begin s ≡ begun w → Walks (call s) w (listing s)
+  joined w e =
+      let b = subst (λ (x : Begin ImportWalk). Starts x (listing s)) e starts in
+      subst (Walks (call s) w) (sym (b .all)) (walks-ahead (call s) ahead Going says stays w (b .going))
+
+  pub joined-only : (w : ImportWalk) {r : Run Import} → begin s ≡ begun w → Walks (call s) w r → r ≡ listing s
+  joined-only w e h = walks-one (call s) h (joined w e)
+
+  pub not-begun : {n : ℕ} → begin s ≡ notBegun n → listing s ≡ fails n
+  not-begun e = subst (λ (x : Begin ImportWalk). Starts x (listing s)) e starts

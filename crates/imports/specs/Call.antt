@@ -1,0 +1,59 @@
+-- A start and a call of the walk over imports: what they answer, and the state handed back, for any state and any bytes.
+use Prim.Native.Nat.{ℕ, zero, suc}
+use mathlib.Core.Bool.{Bool, true, false, cond, _||_}
+use mathlib.Core.List.{List}
+use lib.Dec.{leb, ltb, eqb}
+use lib.ListN.{length}
+use Rattle.chains.specs.FixupChains.{headerAt, thenHeader}
+use Rattle.chains.specs.declared.header.Header.{Header}
+use Rattle.imports.specs.ChainedImports.{importAt}
+use Rattle.imports.specs.declared.Import.{Import}
+use Rattle.imports.specs.declared.ImportWalk.{ImportWalk}
+use Rattle.imports.specs.declared.record.ImportRead.{ImportRead}
+use Rattle.imports.specs.declared.record.ImportRead.the-variants.{Found, Refused}
+use Rattle.refusal.specs.Numbers.{numberOf}
+use Rattle.refusal.specs.declared.Refusal.the-variants.{UnsupportedFormat, FaultyImport, StateOutOfRange}
+use Rattle.runs.specs.Runs.{Begin, begun, notBegun, Answer, item, end, refused}
+
+-- ---- a start
+
+abbrev pub atStart : Header → ImportWalk
+atStart h = record { place = h .imports; symbols = h .symbols; left = h .count; format = h .format; ended = false }
+
+-- the format of the imports is not looked at: where there is none, any is right
+unfoldable pub begin : List ℕ → Begin ImportWalk
+begin s =
+    thenHeader (headerAt s) notBegun
+    (λ h.
+    cond (eqb (h .packing) 0)
+    (cond (leb (h .imports) (length s))
+    (cond (leb (h .symbols) (length s)) (begun (atStart h)) (notBegun (numberOf FaultyImport)))
+    (notBegun (numberOf FaultyImport)))
+    (notBegun (numberOf UnsupportedFormat)))
+
+-- ---- a call
+
+abbrev pub marked : ImportWalk → ImportWalk
+marked w = record { place = w .place; symbols = w .symbols; left = w .left; format = w .format; ended = true }
+
+-- the next import is read up to a place, and so many are left
+abbrev pub passed : (next left : ℕ) → ImportWalk → ImportWalk
+passed next left w = record { place = next; symbols = w .symbols; left = left; format = w .format; ended = w .ended }
+
+unfoldable pub imported : ImportWalk → (left : ℕ) → ImportRead → Answer ImportWalk Import
+imported w left (Found x next) = item x (passed next left w)
+imported w left (Refused e) = refused (numberOf e) (marked w)
+
+unfoldable pub next : List ℕ → ImportWalk → (n : ℕ) → Answer ImportWalk Import
+next s w zero = end w
+next s w (suc left) = imported w left (importAt s (w .format) (w .symbols) (w .place))
+
+-- 19: a place to read at is beyond the bytes
+abbrev pub outOfRange : (place symbols len : ℕ) → Bool
+outOfRange place symbols len = ltb len place || ltb len symbols
+
+unfoldable pub call : List ℕ → ImportWalk → Answer ImportWalk Import
+call s w =
+    cond (outOfRange (w .place) (w .symbols) (length s)) (refused (numberOf StateOutOfRange) w)
+    (cond (w .ended) (end w)
+    (next s w (w .left)))

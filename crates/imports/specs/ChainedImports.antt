@@ -1,0 +1,85 @@
+-- The imports of mach-o/fixup-chains.h: what a record says, by its format, and the import with its name.
+use Prim.Native.Nat.{ℕ, _+_, _-_, _^_}
+use mathlib.Core.Bool.{cond}
+use mathlib.Core.List.{List}
+use lib.Dec.{ltb, eqb}
+use lib.IntN.{ℤ, pos, _-ℤ_}
+use Rattle.chains.specs.FixupChains.{bits}
+use Rattle.imports.specs.declared.Import.{Import}
+use Rattle.imports.specs.declared.record.ImportRead.{ImportRead}
+use Rattle.imports.specs.declared.record.ImportRead.the-variants as import
+use Rattle.imports.specs.declared.record.Record.{Record}
+use Rattle.imports.specs.declared.record.RecordRead.{RecordRead}
+use Rattle.imports.specs.declared.record.RecordRead.the-variants as read
+use Rattle.numbers.specs.LittleEndian.{fieldAt}
+use Rattle.numbers.specs.Strings.{stringAt}
+use Rattle.numbers.specs.Then.{thenNumber, thenText}
+use Rattle.refusal.specs.declared.Refusal.{Refusal}
+use Rattle.refusal.specs.declared.Refusal.the-variants.{UnsupportedFormat, FaultyImport}
+
+-- a number of so many bits, of which those above a bound stand for negative numbers, in two's complement
+abbrev pub signedAbove : (bound width n : ℕ) → ℤ
+signedAbove bound width n = cond (ltb bound n) (pos n -ℤ pos (2 ^ width)) (pos n)
+
+-- ---- records
+
+-- DYLD_CHAINED_IMPORT and DYLD_CHAINED_IMPORT_ADDEND: four bytes. Libraries above 0xf0 are the special ones
+abbrev pub narrow : (n : ℕ) → (addend : ℤ) → Record
+narrow n addend =
+    record {
+      library = signedAbove 0xf0 8 (bits 0 8 n);  -- lib_ordinal
+      weak = eqb (bits 8 1 n) 1;  -- weak_import
+      name = bits 9 23 n;  -- name_offset
+      addend = addend;
+    }
+
+-- DYLD_CHAINED_IMPORT_ADDEND64: eight bytes, and libraries above 0xfff0
+abbrev pub wide : (n : ℕ) → (addend : ℤ) → Record
+wide n addend =
+    record {
+      library = signedAbove 0xfff0 16 (bits 0 16 n);  -- lib_ordinal
+      weak = eqb (bits 16 1 n) 1;  -- weak_import
+      name = bits 32 32 n;  -- name_offset, above 15 bits that are reserved
+      addend = addend;
+    }
+
+abbrev pub noRecord : RecordRead
+noRecord = read.Refused FaultyImport
+
+-- so many bytes of fields
+unfoldable pub plainAt : List ℕ → ℕ → RecordRead
+plainAt s at = thenNumber (fieldAt 4 s at) noRecord (λ n next. read.Found (narrow n (pos 0)) next)
+
+-- and behind them as many of an addend, which is signed
+unfoldable pub addendAt : List ℕ → ℕ → RecordRead
+addendAt s at =
+    thenNumber (fieldAt 4 s at) noRecord
+    (λ n at. thenNumber (fieldAt 4 s at) noRecord (λ a next. read.Found (narrow n (signedAbove (2 ^ 31 - 1) 32 a)) next))
+
+unfoldable pub addend64At : List ℕ → ℕ → RecordRead
+addend64At s at =
+    thenNumber (fieldAt 8 s at) noRecord
+    (λ n at. thenNumber (fieldAt 8 s at) noRecord (λ a next. read.Found (wide n (signedAbove (2 ^ 63 - 1) 64 a)) next))
+
+-- the record of a format at a place, and the place behind it
+unfoldable pub recordAt : List ℕ → (format at : ℕ) → RecordRead
+recordAt s format at =
+    cond (eqb format 1) (plainAt s at)  -- DYLD_CHAINED_IMPORT
+    (cond (eqb format 2) (addendAt s at)  -- DYLD_CHAINED_IMPORT_ADDEND
+    (cond (eqb format 3) (addend64At s at)  -- DYLD_CHAINED_IMPORT_ADDEND64
+    (read.Refused UnsupportedFormat)))
+
+-- ---- an import: a record, and the name at its offset in the symbols
+
+unfoldable pub thenRecord : {A : Type 0} → RecordRead → (refused : Refusal → A) → (Record → (next : ℕ) → A) → A
+thenRecord (read.Found r next) refused go = go r next
+thenRecord (read.Refused e) refused go = refused e
+
+abbrev pub named : Record → (place len : ℕ) → Import
+named r place len =
+    record { library = r .library; weak = r .weak; addend = r .addend; place = place; length = len }
+
+unfoldable pub importAt : List ℕ → (format symbols at : ℕ) → ImportRead
+importAt s format symbols at =
+    thenRecord (recordAt s format at) import.Refused
+    (λ r next. thenText (stringAt s (symbols + r .name)) (import.Refused FaultyImport) (λ place len behind. import.Found (named r place len) next))

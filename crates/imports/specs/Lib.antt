@@ -1,0 +1,4 @@
+pub mod ChainedImports
+pub mod Listing
+pub mod Call
+pub mod Told

@@ -1,0 +1,81 @@
+-- Fields, and rows of fields of one width, as a caller reads and tests them: for `search`. `r` is what a call answered. Assumes nothing.
+use Prim.Native.Nat.{ℕ, zero, _+_, _-_, _*_, _/_, _^_, _≤_, _<_}
+use mathlib.Core.Path.{_≡_, refl, ap, sym, _∙_, subst}
+use mathlib.Core.Bool.{Bool, true, false, cond}
+use mathlib.Core.List.{List}
+use native.Mathlib.Decide.{decLt}
+use native.Mathlib.Nat.{div-lt-iff-lt-mul, le-div-iff-mul-le}
+use native.Mathlib.Omega.{arith}
+use borrow.Author.Tests.{leb-true, leb-false, le-leb, lt-leb, lt-ltb, le-ltb}
+use lib.Dec.{leb, ltb}
+use lib.ListN.{length, getD}
+use mir.Syntax.{w8, w16}
+use mir.Val.{Fits}
+use Rattle.numbers.specs.LittleEndian.{littleEndian, fieldAt}
+use Rattle.numbers.specs.declared.Number.{Number}
+use Rattle.numbers.specs.declared.Number.the-variants.{Value, Fault}
+use Rattle.numbers.proofs.little_endian.Fields.{Bytes, field-below}
+
+-- ---- a field
+
+record Field (n : ℕ) (s : List ℕ) (at value next : ℕ) : Type 0 where
+  fits : at + n ≤ length s
+  is : value ≡ littleEndian n s at
+  ends : next ≡ at + n
+
+abbrev IfField : (n : ℕ) → List ℕ → (at : ℕ) → Number → Type 0
+IfField n s at (Value v next) = Field n s at v next
+IfField n s at Fault = length s < at + n
+
+module _ (n : ℕ) (s : List ℕ) (at : ℕ) where
+  by-test : (t : Bool) → leb (at + n) (length s) ≡ t → IfField n s at (cond t (Value (littleEndian n s at) (at + n)) Fault)
+  by-test true e = record { fits = leb-true (at + n) (length s) e; is = refl; ends = refl }
+  by-test false e = leb-false (at + n) (length s) e
+
+  field : {r q : Number} → r ≡ fieldAt n s at → r ≡ q → IfField n s at q
+  unfolding fieldAt
+  field e f = subst (IfField n s at) (sym e ∙ f) (by-test (leb (at + n) (length s)) refl)
+
+  module _ {r : Number} {v next : ℕ} (e : r ≡ fieldAt n s at) (f : r ≡ Value v next) where
+    pub field-inside : next ≤ length s
+    field-inside = let d = field e f in omega (arith, d .fits, d .ends)
+
+    pub field-ends : next ≡ at + n
+    field-ends = field e f .ends
+
+    pub field-value : v ≡ littleEndian n s at
+    field-value = field e f .is
+
+  -- what fits is no fault
+  pub field-there : {r : Number} → r ≡ fieldAt n s at → r ≡ Fault → at + n ≤ length s → {v : ℕ} → v ≡ littleEndian n s at
+  field-there e f h = absurd (omega (arith, field e f))
+
+  -- what does not fit is one
+  pub field-out : length s < at + n → fieldAt n s at ≡ Fault
+  unfolding fieldAt
+  field-out h = rw (lt-leb (at + n) (length s) h)
+
+-- a field of two bytes, as a u16
+pub field-u16 : (s : List ℕ) (at : ℕ) {v : ℕ} → v ≡ littleEndian 2 s at → Bytes s → Fits w16 v
+field-u16 s at e h = record { fits = rw e (field-below s 2 at h) }
+
+-- ---- a row of n fields of a width, from a place on
+
+pub row-beyond : (width at n len : ℕ) → len < at → true ≡ ltb len (at + width * n)
+row-beyond width at n len h = sym (lt-ltb len (at + width * n) (omega arith))
+
+module _ (width : ℕ) (some : 0 < width) (at n len : ℕ) where
+  pub row-out : (len - at) / width < n → leb (at + width * n) len ≡ false
+  row-out h = let l = div-lt-iff-lt-mul some .0 h in lt-leb (at + width * n) len (omega (arith, l))
+
+  -- by one test, whether it does not lie in so many bytes
+  pub row-test : at ≤ len → ltb ((len - at) / width) n ≡ ltb len (at + width * n)
+  row-test i =
+      elim (decLt ((len - at) / width) n) [
+        | yes h ↦ let l = div-lt-iff-lt-mul some .0 h in lt-ltb ((len - at) / width) n h ∙ sym (lt-ltb len (at + width * n) (omega (arith, l)))
+        | no h ↦ let k : n ≤ (len - at) / width = omega arith in
+            let l = le-div-iff-mul-le some .0 k in le-ltb ((len - at) / width) n k ∙ sym (le-ltb len (at + width * n) (omega (arith, l, i)))
+      ]
+
+  pub row-in : at ≤ len → n ≤ (len - at) / width → leb (at + width * n) len ≡ true
+  row-in i h = let l = le-div-iff-mul-le some .0 h in le-leb (at + width * n) len (omega (arith, l, i))

@@ -1,0 +1,101 @@
+-- Calls from a start on say what the chains of the segment list, and nothing else. Assumes nothing.
+use Prim.Native.Nat.{ℕ, _-_, _^_, _≤_, _<_}
+use mathlib.Core.Path.{_≡_, refl, ap, _∙_, subst}
+use mathlib.Core.Bool.{Bool, true, false, cond}
+use mathlib.Core.List.{List}
+use native.Mathlib.Omega.{arith}
+use borrow.Author.Tests.{le-ltb}
+use lib.Dec.{eqb}
+use lib.ListN.{length}
+use Rattle.chains.specs.declared.Segment.{Segment}
+use Rattle.numbers.proofs.Picks.{by-pick}
+use Rattle.pages.proofs.Ahead.{ahead, says}
+use Rattle.pages.proofs.Answers.{by-call}
+use Rattle.pages.proofs.Moves.{origin-within}
+use Rattle.pages.specs.Call.{startsOut, atStart, begin, onward, farthest, outOfRange, call}
+use Rattle.pages.specs.ChainedPointers.{isFormat, nextOf}
+use Rattle.pages.specs.Listing.{pages, listing}
+use Rattle.pages.specs.declared.PageWalk.{PageWalk}
+use Rattle.pages.specs.declared.Patch.{Patch}
+use Rattle.runs.proofs.Walks.{Stays, walks-ahead, walks-one}
+use Rattle.runs.specs.Runs.{Begin, begun, notBegun, Run, Walks}
+
+-- what the types hold: a page size and a number of pages are u16, and a slice has less than 2^64 bytes
+pub record Typed (g : Segment) (d : List ℕ) : Type 0 where
+  pub size : g .size ≤ 65535
+  pub pages : g .pages ≤ 65535
+  pub room : length d < 2 ^ 64
+
+module _ (s d : List ℕ) where
+  -- a walk that goes on: in range, and not ended
+  record Going (g : Segment) (origin : ℕ) (ended : Bool) : Type 0 where
+    typed : Typed g d
+    inside : startsOut g (length s) ≡ false
+    format : isFormat (g .format) ≡ true
+    near : origin ≤ farthest
+    live : ended ≡ false
+
+  abbrev Goes : PageWalk → Type 0
+  Goes w = Going (w .segment) (w .origin) (w .ended)
+
+  in-range : (w : PageWalk) → Goes w → outOfRange w (length s) ≡ false
+  in-range w h = rw (h .inside, h .format, le-ltb farthest (w .origin) (h .near))
+
+  -- each call keeps it so
+  goes : (w : PageWalk) → Goes w → Stays Goes (call s d w)
+  unfolding onward
+  goes w h =
+      by-call s d {I = Goes} {Q = Stays Goes}
+      (record {
+        refuses = λ e. tt;
+        ends = λ v i. tt;
+        gives = λ v n i. by-pick Goes (eqb (nextOf (v .segment .format) n) 0) _ _ i i;
+        on-page =
+            λ v l i.
+            record {
+              typed = i .typed;
+              inside = i .inside;
+              format = i .format;
+              near = origin-within {pages = v .segment .pages} l (i .typed .pages) (i .typed .size);
+              live = i .live;
+            };
+        to-chain = λ v index i. i;
+        to-pointer = λ v more offset i. i;
+      })
+      (in-range w h) (h .live) h
+
+  -- calls from any state that goes on say what it has still to list; so every walk ends
+  walks : (w : PageWalk) → Goes w → Walks (call s d) w (ahead s d w)
+  walks = walks-ahead (call s d) (ahead s d) Goes (λ w h. says s d (h .typed .room) w (in-range w h) (h .live)) goes
+
+  -- ---- a start
+
+  module _ (g : Segment) (base : ℕ) (t : Typed g d) where
+    record Begins (w : PageWalk) : Type 0 where
+      going : Goes w
+      is : w ≡ atStart g base
+
+    abbrev IfBegun : Begin PageWalk → Type 0
+    IfBegun (begun w) = Begins w
+    IfBegun (notBegun n) = Unit {0}
+
+    begins : IfBegun (begin s g base)
+    unfolding begin
+    begins = by (startsOut g (length s)) (isFormat (g .format)) refl refl
+      where
+        by : (a b : Bool) → startsOut g (length s) ≡ a → isFormat (g .format) ≡ b → IfBegun (cond a (notBegun 19) (cond b (begun (atStart g base)) (notBegun 11)))
+        by true b e f = tt
+        by false true e f = record { going = record { typed = t; inside = e; format = f; near = omega arith; live = refl }; is = refl }
+        by false false e f = tt
+
+    -- calls from a start on say what the chains list
+    pub joined : (w : PageWalk) → begin s g base ≡ begun w → Walks (call s d) w (listing s d g base)
+    unfolding listing
+    joined w e =
+        let b = subst IfBegun e begins in
+        let z : g .pages - 0 ≡ g .pages = omega arith in
+        subst (Walks (call s d) w) (ap (ahead s d) (b .is) ∙ ap (λ (n : ℕ). pages s d g base n 0) z) (walks w (b .going))
+
+    -- and nothing else
+    pub joined-only : (w : PageWalk) {r : Run Patch} → begin s g base ≡ begun w → Walks (call s d) w r → r ≡ listing s d g base
+    joined-only w e h = walks-one (call s d) h (joined w e)

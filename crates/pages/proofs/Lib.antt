@@ -1,0 +1,9 @@
+pub mod Formats
+pub mod Moves
+pub mod Calls
+pub mod Answers
+pub mod Chains
+pub mod Ahead
+pub mod Joined
+pub mod Kept
+pub mod Unique

@@ -1,0 +1,137 @@
+-- A start and a call of the walk over the pages of a segment: what they answer, and the state handed back, for any state and any bytes. `s`
+-- are the bytes of the chained fixups, `d` those of the segment.
+use Prim.Native.Nat.{ℕ, zero, suc, _+_, _-_, _*_, _^_, min}
+use mathlib.Core.Bool.{Bool, true, false, cond, _||_, not}
+use mathlib.Core.List.{List}
+use lib.Dec.{ltb, eqb}
+use lib.ListN.{length}
+use Rattle.chains.specs.declared.Segment.{Segment}
+use Rattle.numbers.specs.LittleEndian.{fieldAt}
+use Rattle.numbers.specs.Then.{thenNumber}
+use Rattle.pages.specs.ChainedPointers.{startAt, isNone, isMarked, unmarked, isFormat, widthOf, nextOf}
+use Rattle.pages.specs.Listing.{patch}
+use Rattle.pages.specs.declared.PageWalk.{PageWalk}
+use Rattle.pages.specs.declared.Patch.{Patch}
+use Rattle.refusal.specs.Numbers.{numberOf}
+use Rattle.refusal.specs.declared.Refusal.{Refusal}
+use Rattle.refusal.specs.declared.Refusal.the-variants.{UnsupportedFormat, BeyondStarts, PointerOutside, StateOutOfRange}
+use Rattle.runs.specs.Runs.{Begin, begun, notBegun, Answer, item, end, refused}
+
+-- ---- a start
+
+-- whether the starts of a segment do not lie in so many bytes
+abbrev pub startsOut : Segment → (len : ℕ) → Bool
+startsOut g len = ltb len (g .place + 2 * g .count)
+
+abbrev pub atStart : Segment → (base : ℕ) → PageWalk
+atStart g base =
+    record { segment = g; base = base; linked = false; more = false; page = 0; chain = 0; origin = 0; offset = 0; ended = false }
+
+-- the record is state (19), but for its format (11)
+unfoldable pub begin : List ℕ → Segment → (base : ℕ) → Begin PageWalk
+begin s g base =
+    cond (startsOut g (length s)) (notBegun (numberOf StateOutOfRange))
+    (cond (isFormat (g .format)) (begun (atStart g base)) (notBegun (numberOf UnsupportedFormat)))
+
+-- ---- what becomes of a state
+
+abbrev pub marked : PageWalk → PageWalk
+marked w =
+    record {
+      segment = w .segment;
+      base = w .base;
+      linked = w .linked;
+      more = w .more;
+      page = w .page;
+      chain = w .chain;
+      origin = w .origin;
+      offset = w .offset;
+      ended = true;
+    }
+
+-- the same walk elsewhere
+abbrev pub moved : PageWalk → (linked more : Bool) → (page chain origin offset : ℕ) → PageWalk
+moved w linked more page chain origin offset =
+    record {
+      segment = w .segment;
+      base = w .base;
+      linked = linked;
+      more = more;
+      page = page;
+      chain = chain;
+      origin = origin;
+      offset = offset;
+      ended = w .ended;
+    }
+
+-- the start of the next page is read
+abbrev pub onPage : PageWalk → PageWalk
+onPage w = moved w (w .linked) (w .more) (w .page + 1) (w .chain) (w .page * w .segment .size) (w .offset)
+
+-- the start of a chain is due, of this index
+abbrev pub toChain : (index : ℕ) → PageWalk → PageWalk
+toChain index w = moved w false true (w .page) index (w .origin) (w .offset)
+
+-- a pointer is due at an offset, and behind its chain there may be more
+abbrev pub toPointer : (more : Bool) (offset : ℕ) → PageWalk → PageWalk
+toPointer more offset w = moved w true more (w .page) (w .chain) (w .origin) offset
+
+-- a pointer is read, and the next of its chain is so far behind it; 0 where there is none. An offset that a u64 has not is its largest: no
+-- pointer lies there
+unfoldable pub onward : (next : ℕ) → PageWalk → PageWalk
+onward next w =
+    cond (eqb next 0)
+    (moved w false (w .more) (w .page) (w .chain) (w .origin) (w .offset))
+    (moved w (w .linked) (w .more) (w .page) (w .chain) (w .origin) (min (w .offset + next) (2 ^ 64 - 1)))
+
+-- ---- a call
+
+-- any refusal but 19 hands back the state as given, marked as ended
+abbrev pub refusing : (given : PageWalk) → Refusal → Answer PageWalk Patch
+refusing given e = refused (numberOf e) (marked given)
+
+-- a pointer is due
+unfoldable pub pointer : List ℕ → (given : PageWalk) → PageWalk → Answer PageWalk Patch
+pointer d given w =
+    thenNumber (fieldAt (widthOf (w .segment .format)) d (w .offset)) (refusing given PointerOutside)
+    (λ n behind. item (patch (w .segment) (w .base) (w .offset) n) (onward (nextOf (w .segment .format) n) w))
+
+module _ (s d : List ℕ) (given : PageWalk) where
+  -- the start of a chain is due
+  unfoldable pub chain : PageWalk → Answer PageWalk Patch
+  chain w =
+      thenNumber (startAt s (w .segment) (w .chain)) (refusing given BeyondStarts)
+      (λ start behind. pointer d given (toPointer (not (isMarked start)) (w .origin + unmarked start) (toChain (w .chain + 1) w)))
+
+  -- a page by its start: a list of chains, or one chain
+  unfoldable pub opened : PageWalk → (start : ℕ) → Answer PageWalk Patch
+  opened w start =
+      cond (isMarked start) (chain (toChain (unmarked start) w))
+      (pointer d given (toPointer false (w .origin + start) w))
+
+  -- the start of a page is due, and n pages are left
+  unfoldable pub pages : (n : ℕ) → PageWalk → Answer PageWalk Patch
+  pages zero w = end w
+  pages (suc n) w =
+      thenNumber (startAt s (w .segment) (w .page)) (refusing given BeyondStarts) (λ start behind. cond (isNone start) (pages n (onPage w)) (opened (onPage w) start))
+
+  -- by what is due
+  unfoldable pub called : (linked more : Bool) → Answer PageWalk Patch
+  called true more = pointer d given given
+  called false true = chain given
+  called false false = pages (given .segment .pages - given .page) given
+
+-- the largest origin that a page can have
+abbrev pub farthest : ℕ
+farthest = 65535 * 65535
+
+-- 19: the starts do not lie in the bytes, the format is none, or the origin is that of no page. Indexes and the pointer's offset may be any:
+-- they fall to 12 and 13
+abbrev pub outOfRange : PageWalk → (len : ℕ) → Bool
+outOfRange w len = startsOut (w .segment) len || (not (isFormat (w .segment .format)) || ltb farthest (w .origin))
+
+unfoldable pub call : List ℕ → List ℕ → PageWalk → Answer PageWalk Patch
+call s d w =
+    cond (outOfRange w (length s)) (refused (numberOf StateOutOfRange) w)
+    (cond (w .ended) (end w)
+    (called s d w (w .linked) (w .more)))

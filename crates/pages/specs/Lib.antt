@@ -1,0 +1,4 @@
+pub mod ChainedPointers
+pub mod Listing
+pub mod Call
+pub mod Told

@@ -1,0 +1,63 @@
+-- What the chains of a segment list: every fixup, page by page and chain by chain, each with its place in the segment; and how that ends. `s`
+-- are the bytes of the chained fixups, `d` those of the segment.
+use Prim.Native.Nat.{ℕ, zero, suc, _+_, _-_, _*_}
+use mathlib.Core.Bool.{cond}
+use mathlib.Core.List.{List}
+use lib.Dec.{eqb}
+use lib.ListN.{length}
+use Rattle.chains.specs.declared.Segment.{Segment}
+use Rattle.numbers.specs.LittleEndian.{fieldAt}
+use Rattle.numbers.specs.Then.{thenNumber}
+use Rattle.pages.specs.ChainedPointers.{startAt, isNone, isMarked, unmarked, widthOf, fixupOf, nextOf}
+use Rattle.pages.specs.declared.Patch.{Patch}
+use Rattle.refusal.specs.Numbers.{numberOf}
+use Rattle.refusal.specs.declared.Refusal.the-variants.{BeyondStarts, PointerOutside}
+use Rattle.runs.specs.Runs.{Run, stops, fails, gives, _then_}
+
+abbrev pub patch : Segment → (base place n : ℕ) → Patch
+patch g base place n = record { place = place; fixup = fixupOf (g .format) base n }
+
+abbrev pub outside : Run Patch
+outside = fails (numberOf PointerOutside)
+
+abbrev pub beyond : Run Patch
+beyond = fails (numberOf BeyondStarts)
+
+module _ (s d : List ℕ) (g : Segment) (base : ℕ) where
+  -- what follows a pointer, where the next is so far behind it
+  abbrev pub linked : (rest : ℕ → Run Patch) (place next : ℕ) → Run Patch
+  linked rest place next = cond (eqb next 0) stops (rest (place + next))
+
+  -- so many pointers at most
+  unfoldable pub chainIn : (most place : ℕ) → Run Patch
+  chainIn zero place = outside
+  chainIn (suc most) place =
+      thenNumber (fieldAt (widthOf (g .format)) d place) outside
+      (λ n behind. gives (patch g base place n) (linked (chainIn most) place (nextOf (g .format) n)))
+
+  -- a chain, from a pointer on. There are no more pointers than bytes (so none is cut off: `chain-by`, proofs/Chains.antt)
+  unfoldable pub chain : (place : ℕ) → Run Patch
+  chain place = chainIn (length d) place
+
+  -- the chains of a list, from an index on, where n starts are left; offsets are counted from the origin
+  unfoldable pub chains : (n index origin : ℕ) → Run Patch
+  chains zero index origin = beyond
+  chains (suc n) index origin =
+      thenNumber (startAt s g index) beyond
+      (λ start behind. chain (origin + unmarked start) then cond (isMarked start) stops (chains n (index + 1) origin))
+
+  -- a page by its start
+  unfoldable pub page : (origin start : ℕ) → Run Patch
+  page origin start =
+      cond (isNone start) stops
+      (cond (isMarked start) (chains (g .count - unmarked start) (unmarked start) origin)
+      (chain (origin + start)))
+
+  -- n pages from an index on
+  unfoldable pub pages : (n index : ℕ) → Run Patch
+  pages zero index = stops
+  pages (suc n) index =
+      thenNumber (startAt s g index) beyond (λ start behind. page (index * g .size) start then pages n (index + 1))
+
+  unfoldable pub listing : Run Patch
+  listing = pages (g .pages) 0
