@@ -56,7 +56,7 @@ module _ (s d : List ℕ) where
       abbrev R : Run Patch
       R = behindChain s d (w .segment) (w .base) (w .more) (w .page) (w .chain) (w .origin)
 
-      by-next : (next : ℕ) → (linked s d (w .segment) (w .base) (chain s d (w .segment) (w .base)) (w .offset) next then R) ≡ ahead (onward next w)
+      by-next : (next : ℕ) → (linked (chain s d (w .segment) (w .base)) (w .offset) next then R) ≡ ahead (onward next w)
       unfolding onward _then_
       by-next next = by (eqb next 0)
         where
@@ -72,7 +72,7 @@ module _ (s d : List ℕ) where
       pointer-says = ap (λ (r : Run Patch). r then R) (chain-by s d (w .segment) (w .base) (w .offset)) ∙ by-read (fieldAt (widthOf (w .segment .format)) d (w .offset))
         where
           by-read : (x : Number) →
-              (thenNumber x outside (λ n b. gives (patch (w .segment) (w .base) (w .offset) n) (linked s d (w .segment) (w .base) (chain s d (w .segment) (w .base)) (w .offset) (nextOf (w .segment .format) n))) then R)
+              (thenNumber x outside (λ n b. gives (patch (w .segment) (w .base) (w .offset) n) (linked (chain s d (w .segment) (w .base)) (w .offset) (nextOf (w .segment .format) n))) then R)
               ≡ Shown (thenNumber x (refusing given PointerOutside) (λ n b. item (patch (w .segment) (w .base) (w .offset) n) (onward (nextOf (w .segment .format) n) w)))
           by-read Fault = refl
           by-read (Value n b) = ap (gives (patch (w .segment) (w .base) (w .offset) n)) (by-next (nextOf (w .segment .format) n))

@@ -32,7 +32,7 @@ module _ (s d : List ℕ) (g : Segment) (base : ℕ) where
   -- what follows the read of a pointer, with what lists the rest of its chain
   abbrev Behind : (rest : ℕ → Run Patch) (place : ℕ) → Number → Run Patch
   Behind rest place x =
-      thenNumber x outside (λ n behind. gives (patch g base place n) (linked s d g base rest place (nextOf (g .format) n)))
+      thenNumber x outside (λ n behind. gives (patch g base place n) (linked rest place (nextOf (g .format) n)))
 
   no-pointer : (place : ℕ) → length d ≤ place → fieldAt (widthOf (g .format)) d place ≡ Fault
   no-pointer place h = field-out (widthOf (g .format)) d place (omega (arith, has-width (g .format)))

@@ -23,11 +23,11 @@ outside = fails (numberOf PointerOutside)
 abbrev pub beyond : Run Patch
 beyond = fails (numberOf BeyondStarts)
 
-module _ (s d : List ℕ) (g : Segment) (base : ℕ) where
-  -- what follows a pointer, where the next is so far behind it
-  abbrev pub linked : (rest : ℕ → Run Patch) (place next : ℕ) → Run Patch
-  linked rest place next = cond (eqb next 0) stops (rest (place + next))
+-- behind a pointer at a place: the rest of its chain, from the next pointer on, which is so far behind it; 0 where there is none
+abbrev pub linked : (rest : ℕ → Run Patch) (place next : ℕ) → Run Patch
+linked rest place next = cond (eqb next 0) stops (rest (place + next))
 
+module _ (s d : List ℕ) (g : Segment) (base : ℕ) where
   -- so many pointers at most
   unfoldable pub chainIn : (most place : ℕ) → Run Patch
   chainIn zero place = outside

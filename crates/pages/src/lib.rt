@@ -7,9 +7,9 @@ ghost use lib.ListN.{length};
 ghost use Rattle.numbers.specs.LittleEndian.{fieldAt};
 ghost use Rattle.pages.specs.Call.{startsOut, begin, farthest, outOfRange, marked, onPage, toChain, toPointer, onward, pointer, chain, opened, pages, call};
 ghost use Rattle.pages.specs.ChainedPointers.{startAt, widthOf};
+ghost use Rattle.pages.specs.Told.{startTold, told};
 ghost use Rattle.refusal.specs.Numbers.{numberOf};
 ghost use Rattle.runs.specs.Runs.{refused};
-ghost use Rattle.pages.specs.Told.{startTold, told};
 
 pub mod pointer;
 
@@ -103,6 +103,7 @@ impl PageWalk {
         self.pages(s, d)
     }
 
+    // Whether the state is out of range of so many bytes of chained fixups.
     fn out_of_range(self, len: usize) -> bool
         ensures { λ r. ⌜ r ≡ outOfRange self len ⌝ }
     {
@@ -196,6 +197,7 @@ impl PageWalk {
         w
     }
 
+    // The start of the next page is read.
     fn on_page(self) -> PageWalk
         requires { ⌜ self .page < self .segment .pages ⌝ }
         ensures { λ r. ⌜ (r ≡ onPage self) × (r .origin ≤ farthest) ⌝ }
@@ -208,6 +210,7 @@ impl PageWalk {
         w
     }
 
+    // The start of a chain is due, of this index.
     fn to_chain(self, index: u64) -> PageWalk
         ensures { λ r. ⌜ r ≡ toChain index self ⌝ }
     {
@@ -218,6 +221,7 @@ impl PageWalk {
         w
     }
 
+    // A pointer is due at an offset.
     fn to_pointer(self, more: bool, offset: u64) -> PageWalk
         ensures { λ r. ⌜ r ≡ toPointer more offset self ⌝ }
     {
