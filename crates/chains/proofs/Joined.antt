@@ -4,12 +4,12 @@ use mathlib.Core.Path.{_≡_, refl, ap, sym, _∙_, subst}
 use mathlib.Core.Bool.{Bool, true, false, cond}
 use mathlib.Core.List.{List}
 use native.Mathlib.Omega.{arith}
-use borrow.Author.Tests.{leb-true, le-ltb}
-use lib.Dec.{leb, ltb, eqb}
+use borrow.Author.Tests.{le-ltb, ltb-false}
+use lib.Dec.{ltb, eqb}
 use lib.ListN.{length}
 use Rattle.chains.proofs.Headers.{both-headers}
 use Rattle.chains.specs.Call.{atStart, begin, atIndex, recorded, seek, call}
-use Rattle.chains.specs.FixupChains.{headerAt, offsetAt, recordAt}
+use Rattle.chains.specs.FixupChains.{headerAt, offsetAt, thenStarts, recordAt}
 use Rattle.chains.specs.Heard.{heard, hear}
 use Rattle.chains.specs.Listing.{Entry, entry, segments, listing}
 use Rattle.chains.specs.declared.SegmentWalk.{SegmentWalk}
@@ -23,11 +23,11 @@ use Rattle.runs.proofs.Walks.{shown, Stays, walks-ahead, walks-one}
 use Rattle.runs.specs.Runs.{Begin, begun, notBegun, Run, fails, gives, Walks}
 
 module _ (s : List ℕ) where
-  abbrev Inside : SegmentWalk → Type 0
+  abbrev pub Inside : SegmentWalk → Type 0
   Inside w = ltb (length s) (w .place + 4 + 4 * w .count) ≡ false
 
   -- what is ahead of a state
-  abbrev ahead : SegmentWalk → Run Entry
+  abbrev pub ahead : SegmentWalk → Run Entry
   ahead w = segments s (w .place) (w .count - w .index) (w .index)
 
   module _ (w : SegmentWalk) where
@@ -80,24 +80,27 @@ module _ (s : List ℕ) where
   Starts (notBegun n) r = r ≡ fails n
 
   starts : Starts (begin s) (listing s)
-  unfolding begin listing
+  unfolding begin listing thenStarts
   starts =
       both-headers Starts (headerAt s) _ _ _ _ (λ n. refl)
       (λ h.
       both-numbers Starts (fieldAt 4 s (h .starts)) _ _ _ _ refl
       (λ count at e.
-      both-picks Starts (leb (at + 4 * count) (length s)) _ _ _ _
+      both-picks Starts (ltb (length s) (at + 4 * count)) _ _ _ _ (λ f. refl)
       (λ f.
       record {
-        inside = le-ltb (length s) (h .starts + 4 + 4 * count) (omega (arith, leb-true (at + 4 * count) (length s) f, field-ends 4 s (h .starts) refl e));
+        inside = le-ltb (length s) (h .starts + 4 + 4 * count) (omega (arith, ltb-false (length s) (at + 4 * count) f, field-ends 4 s (h .starts) refl e));
         all = let z : count ≡ count - 0 = omega arith in ap (λ (n : ℕ). segments s (h .starts) n 0) z;
-      })
-      refl))
+      })))
+
+  -- calls from any state in range, made up or not, say what it has still to list; so every walk ends
+  pub walks : (w : SegmentWalk) → Inside w → Walks (hear s) w (ahead w)
+  walks = walks-ahead (hear s) ahead Inside says stays
 
   pub joined : (w : SegmentWalk) → begin s ≡ begun w → Walks (hear s) w (listing s)
   joined w e =
       let b = subst (λ (x : Begin SegmentWalk). Starts x (listing s)) e starts in
-      subst (Walks (hear s) w) (sym (b .all)) (walks-ahead (hear s) ahead Inside says stays w (b .inside))
+      subst (Walks (hear s) w) (sym (b .all)) (walks w (b .inside))
 
   pub joined-only : (w : SegmentWalk) {r : Run Entry} → begin s ≡ begun w → Walks (hear s) w r → r ≡ listing s
   joined-only w e h = walks-one (hear s) h (joined w e)

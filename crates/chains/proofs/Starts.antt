@@ -4,7 +4,7 @@ use mathlib.Core.Path.{_≡_, sym, ap, _∙_}
 use mathlib.Core.Bool.{true, false}
 use mathlib.Core.List.{List}
 use native.Mathlib.Omega.{arith}
-use borrow.Author.Tests.{lt-ltb, lt-leb}
+use borrow.Author.Tests.{lt-ltb}
 use lib.Dec.{ltb}
 use lib.ListN.{length}
 use Rattle.chains.specs.Call.{recorded}
@@ -37,7 +37,7 @@ pub ruleset ranges = (starts-beyond, starts-cut, starts-begin)
 module _ (s : List ℕ) (w : SegmentWalk) (index offset : ℕ) where
   pub record-beyond : length s - w .place < offset → w .place ≤ length s → refused (numberOf FaultyChains) w ≡ recorded w (recordAt s index (w .place + offset))
   unfolding recorded recordAt
-  record-beyond h i = rw (lt-leb (w .place + offset + recordSize) (length s) (omega arith))
+  record-beyond h i = rw (lt-ltb (length s) (w .place + offset + recordSize) (omega arith))
 
 module _ (w : SegmentWalk) (q : Record) {r : Record} (e : r ≡ q) {y : Answer SegmentWalk Segment} where
   pub record-found : {x : Segment} → r ≡ Found x → y ≡ item x w → y ≡ recorded w q

@@ -2,15 +2,13 @@
 use Prim.Native.Nat.{ℕ, zero, suc, _+_, _-_, _*_}
 use mathlib.Core.Bool.{cond}
 use mathlib.Core.List.{List}
-use lib.Dec.{leb, ltb, eqb}
+use lib.Dec.{ltb, eqb}
 use lib.ListN.{length}
-use Rattle.chains.specs.FixupChains.{headerAt, thenHeader, offsetAt, recordAt}
+use Rattle.chains.specs.FixupChains.{offsetAt, thenStarts, recordAt}
 use Rattle.chains.specs.declared.Segment.{Segment}
 use Rattle.chains.specs.declared.SegmentWalk.{SegmentWalk}
 use Rattle.chains.specs.declared.record.Record.{Record}
 use Rattle.chains.specs.declared.record.Record.the-variants.{Found, Fault}
-use Rattle.numbers.specs.LittleEndian.{fieldAt}
-use Rattle.numbers.specs.Then.{thenNumber}
 use Rattle.refusal.specs.Numbers.{numberOf}
 use Rattle.refusal.specs.declared.Refusal.the-variants.{FaultyChains, StateOutOfRange}
 use Rattle.runs.specs.Runs.{Begin, begun, notBegun, Answer, item, end, refused}
@@ -21,19 +19,14 @@ abbrev pub atStart : (place count : ℕ) → SegmentWalk
 atStart place count = record { place = place; count = count; index = 0 }
 
 unfoldable pub begin : List ℕ → Begin SegmentWalk
-begin s =
-    thenHeader (headerAt s) notBegun
-    (λ h.
-    thenNumber (fieldAt 4 s (h .starts)) (notBegun (numberOf FaultyChains))
-    (λ count at.
-    cond (leb (at + 4 * count) (length s)) (begun (atStart (h .starts) count)) (notBegun (numberOf FaultyChains))))
+begin s = thenStarts s notBegun (λ place count. begun (atStart place count))
 
 -- ---- a call
 
 abbrev pub atIndex : (index : ℕ) → SegmentWalk → SegmentWalk
 atIndex index w = record { place = w .place; count = w .count; index = index }
 
--- a record that was read, with the state behind it
+-- the answer for a record; `behind` is the state after its segment
 unfoldable pub recorded : (behind : SegmentWalk) → Record → Answer SegmentWalk Segment
 recorded behind (Found segment) = item segment behind
 recorded behind Fault = refused (numberOf FaultyChains) behind

@@ -1,4 +1,4 @@
--- A call as one hears it who goes on behind a segment that is refused: that is an entry too.
+-- A call, for a caller who goes on after a refused record: the refusal is an entry, and not the end.
 use Prim.Native.Nat.{ℕ}
 use mathlib.Core.Bool.{cond}
 use mathlib.Core.List.{List}

@@ -1,15 +1,12 @@
 -- What the starts list: every segment that has fixups, in order. A record that is refused is an entry, and not the end.
-use Prim.Native.Nat.{ℕ, zero, suc, _+_, _*_}
+use Prim.Native.Nat.{ℕ, zero, suc, _+_}
 use mathlib.Core.Bool.{cond}
 use mathlib.Core.List.{List}
-use lib.Dec.{leb, eqb}
-use lib.ListN.{length}
-use Rattle.chains.specs.FixupChains.{headerAt, thenHeader, offsetAt, recordAt}
+use lib.Dec.{eqb}
+use Rattle.chains.specs.FixupChains.{offsetAt, thenStarts, recordAt}
 use Rattle.chains.specs.declared.Segment.{Segment}
 use Rattle.chains.specs.declared.record.Record.{Record}
 use Rattle.chains.specs.declared.record.Record.the-variants.{Found, Fault}
-use Rattle.numbers.specs.LittleEndian.{fieldAt}
-use Rattle.numbers.specs.Then.{thenNumber}
 use Rattle.refusal.specs.Numbers.{numberOf}
 use Rattle.refusal.specs.declared.Refusal.the-variants.{FaultyChains}
 use Rattle.runs.specs.Runs.{Run, stops, fails, gives}
@@ -30,9 +27,4 @@ segments s place (suc n) index =
     cond (eqb (offsetAt s place index) 0) rest (gives (entry (recordAt s index (place + offsetAt s place index))) rest)
 
 unfoldable pub listing : List ℕ → Run Entry
-listing s =
-    thenHeader (headerAt s) fails
-    (λ h.
-    thenNumber (fieldAt 4 s (h .starts)) (fails (numberOf FaultyChains))
-    (λ count at.
-    cond (leb (at + 4 * count) (length s)) (segments s (h .starts) count 0) (fails (numberOf FaultyChains))))
+listing s = thenStarts s fails (λ place count. segments s place count 0)

@@ -1,17 +1,22 @@
--- The records and the names of imports, by what was read and tested: for `search`. Assumes nothing.
+-- The start, the records and the names of imports, by what was read and tested: for `search`. Assumes nothing.
 use Prim.Native.Nat.{ℕ, _+_, _-_, _/_, _%_, _^_, _≤_, _<_}
-use mathlib.Core.Path.{_≡_, refl, sym, _∙_}
-use mathlib.Core.Bool.{false}
+use mathlib.Core.Path.{_≡_, refl, sym, ap, _∙_}
+use mathlib.Core.Bool.{Bool, true, false, cond, not}
 use mathlib.Core.List.{List}
 use native.Mathlib.Nat.{div-one}
 use native.Mathlib.Omega.{arith}
-use lib.Dec.{eqb}
+use borrow.Author.Tests.{ltb-false, eq-eqb, ne-eqb}
+use lib.Dec.{ltb, eqb}
 use lib.IntN.{ℤ}
 use lib.ListN.{length}
-use Rattle.imports.specs.ChainedImports.{signedAbove, narrow, wide, thenRecord}
+use Rattle.chains.proofs.Headers.{both-headers}
+use Rattle.chains.specs.FixupChains.{headerAt}
+use Rattle.chains.specs.declared.header.Header.{Header}
+use Rattle.imports.specs.ChainedImports.{thenImports, signedAbove, narrow, wide, thenRecord}
 use Rattle.imports.specs.declared.record.Record.{Record}
 use Rattle.imports.specs.declared.record.RecordRead.{RecordRead}
 use Rattle.imports.specs.declared.record.RecordRead.the-variants.{Found, Refused}
+use Rattle.numbers.proofs.Picks.{both-picks}
 use Rattle.numbers.proofs.Laws.{field-read}
 use Rattle.numbers.proofs.Runs.{none-passed}
 use Rattle.numbers.proofs.little_endian.Fields.{Bytes}
@@ -22,6 +27,32 @@ use Rattle.numbers.specs.declared.Number.{Number}
 use Rattle.numbers.specs.declared.Number.the-variants.{Value}
 use Rattle.numbers.specs.declared.strings.Text.the-variants.{Fault}
 use Rattle.refusal.specs.declared.Refusal.{Refusal}
+
+-- ---- where the imports are
+
+module _ (a b : ℕ) where
+  pub ne-not-eqb : (a ≡ b → ⊥) → not (eqb a b) ≡ true
+  ne-not-eqb h = ap not (ne-eqb a b h)
+
+  pub eq-not-eqb : a ≡ b → not (eqb a b) ≡ false
+  eq-not-eqb e = ap not (eq-eqb a b e)
+
+pub ruleset packings = (ne-not-eqb, eq-not-eqb)
+
+-- what holds of two definitions that go by the same imports
+module _ {A B : Type 0} (R : A → B → Type 0) where
+  pub both-imports : (s : List ℕ) (e : ℕ → A) (go : Header → A) (d : ℕ → B) (to : Header → B) → ((n : ℕ) → R (e n) (d n)) →
+      ((h : Header) → h .imports ≤ length s → h .symbols ≤ length s → R (go h) (to h)) → R (thenImports s e go) (thenImports s d to)
+  unfolding thenImports
+  both-imports s e go d to p q =
+      both-headers R (headerAt s) e _ d _ p
+      (λ h.
+      both-picks R (not (eqb (h .packing) 0)) _ _ _ _ (λ t. p _)
+      (λ u.
+      both-picks R (ltb (length s) (h .imports)) _ _ _ _ (λ t. p _)
+      (λ i.
+      both-picks R (ltb (length s) (h .symbols)) _ _ _ _ (λ t. p _)
+      (λ j. q h (ltb-false (length s) (h .imports) i) (ltb-false (length s) (h .symbols) j)))))
 
 -- ---- a record
 

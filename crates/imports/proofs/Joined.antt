@@ -1,13 +1,10 @@
--- Calls from a start on say what the bytes list, and nothing else; where the start is refused, they list that refusal. Assumes nothing.
+-- Calls from any state that goes on say what is ahead of it; those from a start on say what the bytes list, and nothing else; where the start
+-- is refused, they list that refusal. Assumes nothing.
 use Prim.Native.Nat.{ℕ, zero, suc}
 use mathlib.Core.Path.{_≡_, refl, ap, sym, _∙_, subst}
 use mathlib.Core.Bool.{Bool, true, false, cond}
 use mathlib.Core.List.{List}
-use borrow.Author.Tests.{leb-true}
-use lib.Dec.{leb, eqb}
 use lib.ListN.{length}
-use Rattle.chains.proofs.Headers.{both-headers}
-use Rattle.chains.specs.FixupChains.{headerAt}
 use Rattle.imports.specs.Call.{begin, imported, next, call}
 use Rattle.imports.specs.ChainedImports.{importAt}
 use Rattle.imports.specs.Listing.{before, imports, listing}
@@ -15,21 +12,21 @@ use Rattle.imports.specs.declared.Import.{Import}
 use Rattle.imports.specs.declared.ImportWalk.{ImportWalk}
 use Rattle.imports.specs.declared.record.ImportRead.{ImportRead}
 use Rattle.imports.specs.declared.record.ImportRead.the-variants.{Found, Refused}
-use Rattle.numbers.proofs.Picks.{both-picks}
 use Rattle.runs.proofs.Walks.{shown, Stays, walks-ahead, walks-one}
 use Rattle.runs.specs.Runs.{Begin, begun, notBegun, end, Run, fails, Walks}
 use Rattle.imports.proofs.Calls.{InRange}
+use Rattle.imports.proofs.Imports.{both-imports}
 use Rattle.imports.proofs.Inside.{IfImport, import-inside}
 use Rattle.imports.proofs.Kept.{in-range-call}
 
 module _ (s : List ℕ) where
   -- a walk that goes on
-  record Going (w : ImportWalk) : Type 0 where
-    range : InRange (w .place) (w .symbols) (length s)
-    live : w .ended ≡ false
+  pub record Going (w : ImportWalk) : Type 0 where
+    pub range : InRange (w .place) (w .symbols) (length s)
+    pub live : w .ended ≡ false
 
   -- what is ahead of a state
-  abbrev ahead : ImportWalk → Run Import
+  abbrev pub ahead : ImportWalk → Run Import
   ahead w = imports s (w .format) (w .symbols) (w .left) (w .place)
 
   -- ---- a call
@@ -67,6 +64,10 @@ module _ (s : List ℕ) where
     stays : Going w → Stays Going (call s w)
     stays g = subst (Stays Going) (sym (going-call g)) (stays-next g (w .left))
 
+  -- calls from any state that goes on say what is ahead of it, made up or not
+  pub walks : (w : ImportWalk) → Going w → Walks (call s) w (ahead w)
+  walks = walks-ahead (call s) ahead Going says stays
+
   -- ---- a start
 
   record Begins (w : ImportWalk) (r : Run Import) : Type 0 where
@@ -80,30 +81,13 @@ module _ (s : List ℕ) where
   starts : Starts (begin s) (listing s)
   unfolding begin listing
   starts =
-      both-headers Starts (headerAt s) _ _ _ _ (λ n. refl)
-      (λ h.
-      both-picks Starts (eqb (h .packing) 0) _ _ _ _
-      (λ e.
-      both-picks Starts (leb (h .imports) (length s)) _ _ _ _
-      (λ i.
-      both-picks Starts (leb (h .symbols) (length s)) _ _ _ _
-      (λ j.
-      record {
-        going =
-            record {
-              range = record { place-in = leb-true (h .imports) (length s) i; symbols-in = leb-true (h .symbols) (length s) j };
-              live = refl;
-            };
-        all = refl;
-      })
-      refl)
-      refl)
-      refl)
+      both-imports Starts s _ _ _ _ (λ n. refl)
+      (λ h i j. record { going = record { range = record { place-in = i; symbols-in = j }; live = refl }; all = refl })
 
   pub joined : (w : ImportWalk) → begin s ≡ begun w → Walks (call s) w (listing s)
   joined w e =
       let b = subst (λ (x : Begin ImportWalk). Starts x (listing s)) e starts in
-      subst (Walks (call s) w) (sym (b .all)) (walks-ahead (call s) ahead Going says stays w (b .going))
+      subst (Walks (call s) w) (sym (b .all)) (walks w (b .going))
 
   pub joined-only : (w : ImportWalk) {r : Run Import} → begin s ≡ begun w → Walks (call s) w r → r ≡ listing s
   joined-only w e h = walks-one (call s) h (joined w e)

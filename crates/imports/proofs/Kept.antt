@@ -1,6 +1,6 @@
--- What is left of a state that is refused, and what it says ever after. Assumes nothing.
+-- What is left of a state that is refused or at its end, and what it says ever after. Assumes nothing.
 use Prim.Native.Nat.{ℕ, zero, suc}
-use mathlib.Core.Path.{_≡_, refl, sym, _∙_, subst}
+use mathlib.Core.Path.{_≡_, refl, ap, sym, _∙_, subst}
 use mathlib.Core.Bool.{true, cond}
 use mathlib.Core.List.{List}
 use lib.ListN.{length}
@@ -14,7 +14,7 @@ use Rattle.numbers.proofs.Picks.{by-pick}
 use Rattle.refusal.specs.Numbers.{numberOf}
 use Rattle.refusal.specs.declared.Refusal.the-variants.{StateOutOfRange}
 use Rattle.runs.proofs.Walks.{IfRefused}
-use Rattle.runs.specs.Runs.{Answer, end, refused}
+use Rattle.runs.specs.Runs.{Answer, item, end, refused}
 use Rattle.imports.proofs.Calls.{InRange, none-out}
 
 module _ (s : List ℕ) (w : ImportWalk) where
@@ -50,3 +50,28 @@ module _ (s : List ℕ) (w : ImportWalk) where
     pub kept : {number : ℕ} {v : ImportWalk} → call s w ≡ refused number v → (t : List ℕ) → InRange (w .place) (w .symbols) (length t) → call t v ≡ end v
     unfolding call
     kept e t j = rw (marked-ended e, none-out (w .place) (w .symbols) (length t) j)
+
+    -- ---- the end
+
+    abbrev Same : Answer ImportWalk Import → Type 0
+    Same (item x v) = Unit {0}
+    Same (end v) = v ≡ w
+    Same (refused number v) = Unit {0}
+
+    same-read : (left : ℕ) (x : ImportRead) → Same (imported w left x)
+    unfolding imported
+    same-read left (Found x at) = tt
+    same-read left (Refused e) = tt
+
+    same-next : (n : ℕ) → Same (next s w n)
+    unfolding next
+    same-next zero = refl
+    same-next (suc n) = same-read n (importAt s (w .format) (w .symbols) (w .place))
+
+    -- End hands back the state as given
+    pub end-same : {v : ImportWalk} → call s w ≡ end v → v ≡ w
+    end-same e = subst Same (sym in-range-call ∙ e) (by-pick Same (w .ended) _ _ refl (same-next (w .left)))
+
+    -- and it says End again
+    pub end-again : {v : ImportWalk} → call s w ≡ end v → call s v ≡ end v
+    end-again {v} e = ap (call s) (end-same e) ∙ e

@@ -2,17 +2,16 @@
 use Prim.Native.Nat.{ℕ, zero, suc}
 use mathlib.Core.Bool.{Bool, true, false, cond, _||_}
 use mathlib.Core.List.{List}
-use lib.Dec.{leb, ltb, eqb}
+use lib.Dec.{ltb}
 use lib.ListN.{length}
-use Rattle.chains.specs.FixupChains.{headerAt, thenHeader}
 use Rattle.chains.specs.declared.header.Header.{Header}
-use Rattle.imports.specs.ChainedImports.{importAt}
+use Rattle.imports.specs.ChainedImports.{thenImports, importAt}
 use Rattle.imports.specs.declared.Import.{Import}
 use Rattle.imports.specs.declared.ImportWalk.{ImportWalk}
 use Rattle.imports.specs.declared.record.ImportRead.{ImportRead}
 use Rattle.imports.specs.declared.record.ImportRead.the-variants.{Found, Refused}
 use Rattle.refusal.specs.Numbers.{numberOf}
-use Rattle.refusal.specs.declared.Refusal.the-variants.{UnsupportedFormat, FaultyImport, StateOutOfRange}
+use Rattle.refusal.specs.declared.Refusal.the-variants.{StateOutOfRange}
 use Rattle.runs.specs.Runs.{Begin, begun, notBegun, Answer, item, end, refused}
 
 -- ---- a start
@@ -20,16 +19,9 @@ use Rattle.runs.specs.Runs.{Begin, begun, notBegun, Answer, item, end, refused}
 abbrev pub atStart : Header → ImportWalk
 atStart h = record { place = h .imports; symbols = h .symbols; left = h .count; format = h .format; ended = false }
 
--- the format of the imports is not looked at: where there is none, any is right
+-- the format is not tested here: with no imports, any will do
 unfoldable pub begin : List ℕ → Begin ImportWalk
-begin s =
-    thenHeader (headerAt s) notBegun
-    (λ h.
-    cond (eqb (h .packing) 0)
-    (cond (leb (h .imports) (length s))
-    (cond (leb (h .symbols) (length s)) (begun (atStart h)) (notBegun (numberOf FaultyImport)))
-    (notBegun (numberOf FaultyImport)))
-    (notBegun (numberOf UnsupportedFormat)))
+begin s = thenImports s notBegun (λ h. begun (atStart h))
 
 -- ---- a call
 

@@ -1,10 +1,12 @@
--- The imports of mach-o/fixup-chains.h: what a record says, by its format, and the import with its name.
+-- The imports of mach-o/fixup-chains.h: where they can be read, what a record says, by its format, and the import with its name.
 use Prim.Native.Nat.{ℕ, _+_, _-_, _^_}
-use mathlib.Core.Bool.{cond}
+use mathlib.Core.Bool.{cond, not}
 use mathlib.Core.List.{List}
 use lib.Dec.{ltb, eqb}
 use lib.IntN.{ℤ, pos, _-ℤ_}
-use Rattle.chains.specs.FixupChains.{bits}
+use lib.ListN.{length}
+use Rattle.chains.specs.FixupChains.{bits, headerAt, thenHeader}
+use Rattle.chains.specs.declared.header.Header.{Header}
 use Rattle.imports.specs.declared.Import.{Import}
 use Rattle.imports.specs.declared.record.ImportRead.{ImportRead}
 use Rattle.imports.specs.declared.record.ImportRead.the-variants as import
@@ -14,16 +16,30 @@ use Rattle.imports.specs.declared.record.RecordRead.the-variants as read
 use Rattle.numbers.specs.LittleEndian.{fieldAt}
 use Rattle.numbers.specs.Strings.{stringAt}
 use Rattle.numbers.specs.Then.{thenNumber, thenText}
+use Rattle.refusal.specs.Numbers.{numberOf}
 use Rattle.refusal.specs.declared.Refusal.{Refusal}
 use Rattle.refusal.specs.declared.Refusal.the-variants.{UnsupportedFormat, FaultyImport}
+
+-- ---- where the imports are
+
+-- the imports, where they can be read: the header (9, 10), symbols that are not packed (11), and both offsets in the bytes (14)
+unfoldable pub thenImports : {A : Type 0} → List ℕ → (refused : ℕ → A) → (Header → A) → A
+thenImports s refused go =
+    thenHeader (headerAt s) refused
+    (λ h.
+    cond (not (eqb (h .packing) 0)) (refused (numberOf UnsupportedFormat))
+    (cond (ltb (length s) (h .imports)) (refused (numberOf FaultyImport))
+    (cond (ltb (length s) (h .symbols)) (refused (numberOf FaultyImport))
+    (go h))))
+
+-- ---- records
 
 -- a number of so many bits, of which those above a bound stand for negative numbers, in two's complement
 abbrev pub signedAbove : (bound width n : ℕ) → ℤ
 signedAbove bound width n = cond (ltb bound n) (pos n -ℤ pos (2 ^ width)) (pos n)
 
--- ---- records
-
 -- DYLD_CHAINED_IMPORT and DYLD_CHAINED_IMPORT_ADDEND: four bytes. Libraries above 0xf0 are the special ones
+-- lib_ordinal 8, weak_import 1, name_offset 23
 abbrev pub narrow : (n : ℕ) → (addend : ℤ) → Record
 narrow n addend =
     record {
@@ -34,6 +50,7 @@ narrow n addend =
     }
 
 -- DYLD_CHAINED_IMPORT_ADDEND64: eight bytes, and libraries above 0xfff0
+-- lib_ordinal 16, weak_import 1, reserved 15, name_offset 32
 abbrev pub wide : (n : ℕ) → (addend : ℤ) → Record
 wide n addend =
     record {
@@ -46,16 +63,17 @@ wide n addend =
 abbrev pub noRecord : RecordRead
 noRecord = read.Refused FaultyImport
 
--- so many bytes of fields
+-- format 1: the fields alone
 unfoldable pub plainAt : List ℕ → ℕ → RecordRead
 plainAt s at = thenNumber (fieldAt 4 s at) noRecord (λ n next. read.Found (narrow n (pos 0)) next)
 
--- and behind them as many of an addend, which is signed
+-- format 2: the fields, then an int32_t addend
 unfoldable pub addendAt : List ℕ → ℕ → RecordRead
 addendAt s at =
     thenNumber (fieldAt 4 s at) noRecord
     (λ n at. thenNumber (fieldAt 4 s at) noRecord (λ a next. read.Found (narrow n (signedAbove (2 ^ 31 - 1) 32 a)) next))
 
+-- format 3: the fields, then a uint64_t addend, read as signed
 unfoldable pub addend64At : List ℕ → ℕ → RecordRead
 addend64At s at =
     thenNumber (fieldAt 8 s at) noRecord

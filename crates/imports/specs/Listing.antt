@@ -1,16 +1,11 @@
 -- What chained fixups import: all imports in order, and how that ends.
 use Prim.Native.Nat.{ℕ, zero, suc}
-use mathlib.Core.Bool.{cond}
 use mathlib.Core.List.{List}
-use lib.Dec.{leb, eqb}
-use lib.ListN.{length}
-use Rattle.chains.specs.FixupChains.{headerAt, thenHeader}
-use Rattle.imports.specs.ChainedImports.{importAt}
+use Rattle.imports.specs.ChainedImports.{thenImports, importAt}
 use Rattle.imports.specs.declared.Import.{Import}
 use Rattle.imports.specs.declared.record.ImportRead.{ImportRead}
 use Rattle.imports.specs.declared.record.ImportRead.the-variants.{Found, Refused}
 use Rattle.refusal.specs.Numbers.{numberOf}
-use Rattle.refusal.specs.declared.Refusal.the-variants.{UnsupportedFormat, FaultyImport}
 use Rattle.runs.specs.Runs.{Run, stops, fails, gives}
 
 -- an import that was read, and then the rest, from the place behind it on
@@ -24,13 +19,4 @@ imports s format symbols zero at = stops
 imports s format symbols (suc n) at = before (imports s format symbols n) (importAt s format symbols at)
 
 unfoldable pub listing : List ℕ → Run Import
-listing s =
-    thenHeader (headerAt s) fails
-    (λ h.
-    cond (eqb (h .packing) 0)
-    (cond (leb (h .imports) (length s))
-    (cond (leb (h .symbols) (length s))
-    (imports s (h .format) (h .symbols) (h .count) (h .imports))
-    (fails (numberOf FaultyImport)))
-    (fails (numberOf FaultyImport)))
-    (fails (numberOf UnsupportedFormat)))
+listing s = thenImports s fails (λ h. imports s (h .format) (h .symbols) (h .count) (h .imports))

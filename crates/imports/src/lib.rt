@@ -103,6 +103,7 @@ impl ImportWalk {
             ImportRead::Refused(e) => self.refused(e),
         }
     }
+
     // Whether a place to read at is beyond so many bytes.
     fn out_of_range(self, len: usize) -> bool
         ensures { λ r. ⌜ r ≡ outOfRange (self .place) (self .symbols) len ⌝ }

@@ -32,6 +32,7 @@ by-pick P true a b p q = p
 by-pick P false a b p q = q
 
 -- what holds of two definitions that pick by one test
-pub both-picks : {A B : Type 0} (R : A → B → Type 0) (t : Bool) (a b : A) (c d : B) → (t ≡ true → R a c) → R b d → R (cond t a b) (cond t c d)
+pub both-picks : {A B : Type 0} (R : A → B → Type 0) (t : Bool) (a b : A) (c d : B) → (t ≡ true → R a c) → (t ≡ false → R b d) →
+    R (cond t a b) (cond t c d)
 both-picks R true a b c d p q = p refl
-both-picks R false a b c d p q = q
+both-picks R false a b c d p q = q refl

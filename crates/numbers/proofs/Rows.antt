@@ -6,7 +6,7 @@ use mathlib.Core.List.{List}
 use native.Mathlib.Decide.{decLt}
 use native.Mathlib.Nat.{div-lt-iff-lt-mul, le-div-iff-mul-le}
 use native.Mathlib.Omega.{arith}
-use borrow.Author.Tests.{leb-true, leb-false, le-leb, lt-leb, lt-ltb, le-ltb}
+use borrow.Author.Tests.{leb-true, leb-false, lt-leb, lt-ltb, le-ltb}
 use lib.Dec.{leb, ltb}
 use lib.ListN.{length, getD}
 use mir.Syntax.{w8, w16}
@@ -65,17 +65,16 @@ pub row-beyond : (width at n len : ℕ) → len < at → true ≡ ltb len (at + 
 row-beyond width at n len h = sym (lt-ltb len (at + width * n) (omega arith))
 
 module _ (width : ℕ) (some : 0 < width) (at n len : ℕ) where
-  pub row-out : (len - at) / width < n → leb (at + width * n) len ≡ false
-  row-out h = let l = div-lt-iff-lt-mul some .0 h in lt-leb (at + width * n) len (omega (arith, l))
+  pub row-out : (len - at) / width < n → ltb len (at + width * n) ≡ true
+  row-out h = let l = div-lt-iff-lt-mul some .0 h in lt-ltb len (at + width * n) (omega (arith, l))
+
+  pub row-in : at ≤ len → n ≤ (len - at) / width → ltb len (at + width * n) ≡ false
+  row-in i h = let l = le-div-iff-mul-le some .0 h in le-ltb len (at + width * n) (omega (arith, l, i))
 
   -- by one test, whether it does not lie in so many bytes
   pub row-test : at ≤ len → ltb ((len - at) / width) n ≡ ltb len (at + width * n)
   row-test i =
       elim (decLt ((len - at) / width) n) [
-        | yes h ↦ let l = div-lt-iff-lt-mul some .0 h in lt-ltb ((len - at) / width) n h ∙ sym (lt-ltb len (at + width * n) (omega (arith, l)))
-        | no h ↦ let k : n ≤ (len - at) / width = omega arith in
-            let l = le-div-iff-mul-le some .0 k in le-ltb ((len - at) / width) n k ∙ sym (le-ltb len (at + width * n) (omega (arith, l, i)))
+        | yes h ↦ lt-ltb ((len - at) / width) n h ∙ sym (row-out h)
+        | no h ↦ let k : n ≤ (len - at) / width = omega arith in le-ltb ((len - at) / width) n k ∙ sym (row-in i k)
       ]
-
-  pub row-in : at ≤ len → n ≤ (len - at) / width → leb (at + width * n) len ≡ true
-  row-in i h = let l = le-div-iff-mul-le some .0 h in le-leb (at + width * n) len (omega (arith, l, i))

@@ -1,13 +1,14 @@
--- A call by what is due, and the loop over pages: for `search`. Assumes nothing.
-use Prim.Native.Nat.{ℕ, zero, suc, _+_, _-_, _*_, _/_, _%_, _≤_, _<_}
+-- The search for the next pointer, with its loop over pages, and a call by what is found: for `search`. Assumes nothing.
+use Prim.Native.Nat.{ℕ, suc, _+_, _-_, _*_, _/_, _%_, _≤_, _<_}
 use mathlib.Core.Path.{_≡_, refl, sym, ap, ap₂, _∙_}
-use mathlib.Core.Bool.{Bool, true, false, cond}
+use mathlib.Core.Bool.{Bool, true, false, cond, not}
 use mathlib.Core.List.{List}
+use native.Mathlib.Decide.{decLt}
 use native.Mathlib.Omega.{arith}
-use borrow.Author.Tests.{le-leb, lt-leb, eq-eqb, ne-eqb, ltb-true}
+use borrow.Author.Tests.{le-leb, lt-leb, lt-ltb, le-ltb, eq-eqb, ne-eqb, ltb-true}
 use lib.Dec.{ltb}
 use lib.ListN.{length}
-use mir.Syntax.{w16, w64}
+use mir.Syntax.{w64}
 use mir.Val.{Fits}
 use Rattle.chains.specs.declared.Segment.{Segment}
 use Rattle.numbers.specs.LittleEndian.{fieldAt}
@@ -15,26 +16,14 @@ use Rattle.numbers.specs.Then.{thenNumber}
 use Rattle.numbers.specs.declared.Number.{Number}
 use Rattle.numbers.specs.declared.Number.the-variants.{Value, Fault}
 use Rattle.pages.proofs.Moves.{in-range}
-use Rattle.pages.specs.Call.{onPage, toChain, toPointer, onward, refusing, pointer, chain, opened, pages, called, farthest, outOfRange, call}
-use Rattle.pages.specs.ChainedPointers.{startAt, isNone, widthOf, fixupOf, nextOf}
+use Rattle.pages.specs.Call.{onPage, toChain, toPointer, onward, chain, opened, pages, soughtBy, seek, refusing, pointer, answered, farthest, outOfRange, call}
+use Rattle.pages.specs.ChainedPointers.{startAt, isNone, isMarked, widthOf, Fixing, fixingOf, nextOf, Fixed, fixed}
 use Rattle.pages.specs.declared.PageWalk.{PageWalk}
-use Rattle.pages.specs.declared.Patch.{Patch}
-use Rattle.pages.specs.declared.pointer.Fixup.{Fixup}
+use Rattle.pages.specs.declared.Sought.{Sought}
+use Rattle.pages.specs.declared.Sought.the-variants as sought
 use Rattle.refusal.specs.Numbers.{numberOf}
 use Rattle.refusal.specs.declared.Refusal.the-variants.{BeyondStarts, PointerOutside, StateOutOfRange}
 use Rattle.runs.specs.Runs.{Answer, item, end, refused}
-
--- ---- a pointer is due
-
-module _ (d : List ℕ) (given w : PageWalk) {r : Number} (e : r ≡ fieldAt (widthOf (w .segment .format)) d (w .offset)) {y : Answer PageWalk Patch} where
-  pub pointer-out : r ≡ Fault → y ≡ refusing given PointerOutside → y ≡ pointer d given w
-  unfolding pointer thenNumber
-  pointer-out f q = rw (sym e ∙ f) q
-
-  pub pointer-read : {n next : ℕ} → r ≡ Value n next → {x : Fixup} → x ≡ fixupOf (w .segment .format) (w .base) n → {k : ℕ} → k ≡ nextOf (w .segment .format) n →
-      {v : PageWalk} → v ≡ onward k w → y ≡ item (record { place = w .offset; fixup = x }) v → y ≡ pointer d given w
-  unfolding pointer thenNumber
-  pointer-read f g h i q = rw (sym e ∙ f) (q ∙ rw (g, i, h))
 
 -- ---- the start of a chain is due
 
@@ -46,40 +35,39 @@ counted s g index e f = by-test (ltb index (g .count)) refl (fieldAt 2 s (g .pla
     by-test true h x q = ltb-true index (g .count) h
     by-test false h x q = let n : _≡_ {A = ℕ} 0 1 = cc in absurd (omega arith)
 
-module _ (s d : List ℕ) (given w : PageWalk) {r : Number} (e : r ≡ startAt s (w .segment) (w .chain)) where
+-- the last of a list is marked
+more-is : (start : ℕ) → ltb start 0x8000 ≡ not (isMarked start)
+more-is start =
+    elim (decLt start 0x8000) [
+      | yes h ↦ lt-ltb start 0x8000 h ∙ ap not (sym (lt-leb 0x8000 start h))
+      | no h ↦ let k : 0x8000 ≤ start = omega arith in le-ltb start 0x8000 k ∙ ap not (sym (le-leb 0x8000 start k))
+    ]
+
+module _ (s : List ℕ) (w : PageWalk) {r : Number} (e : r ≡ startAt s (w .segment) (w .chain)) where
   pub chain-fits : {start next : ℕ} → r ≡ Value start next → Fits w64 (w .segment .count) → Fits w64 (w .chain + 1)
   chain-fits f h = record { fits = omega (arith, h .fits, counted s (w .segment) (w .chain) e f) }
 
-  module _ {y : Answer PageWalk Patch} where
-    pub chain-out : r ≡ Fault → y ≡ refusing given BeyondStarts → y ≡ chain s d given w
-    unfolding chain thenNumber
-    chain-out f q = rw (sym e ∙ f) q
+  pub chain-out : r ≡ Fault → sought.Beyond ≡ chain s w
+  unfolding chain thenNumber
+  chain-out f = rw (sym e ∙ f)
 
-    module _ {start next : ℕ} (f : r ≡ Value start next) {v u : PageWalk} (i : v ≡ toChain (w .chain + 1) w) where
-      pub chain-last : 0x8000 ≤ start → u ≡ toPointer false (w .origin + start % 0x8000) v → y ≡ pointer d given u → y ≡ chain s d given w
-      unfolding chain thenNumber
-      chain-last h j q =
-          let z : start / 1 ≡ start = omega arith in
-          rw (sym e ∙ f) (q ∙ rw (j, i, le-leb 0x8000 start h, z))
+  pub chain-at : {start next : ℕ} → r ≡ Value start next → {v u : PageWalk} → v ≡ toChain (w .chain + 1) w →
+      u ≡ toPointer (ltb start 0x8000) (w .origin + start % 0x8000) v → sought.At u ≡ chain s w
+  unfolding chain thenNumber
+  chain-at {start} f i j = let z : start / 1 ≡ start = omega arith in rw (sym e ∙ f, j, i, more-is start, z)
 
-      pub chain-more : start < 0x8000 → u ≡ toPointer true (w .origin + start % 0x8000) v → y ≡ pointer d given u → y ≡ chain s d given w
-      unfolding chain thenNumber
-      chain-more h j q =
-          let z : start / 1 ≡ start = omega arith in
-          rw (sym e ∙ f) (q ∙ rw (j, i, lt-leb 0x8000 start h, z))
-
-pub ruleset chain-laws = (chain-fits, chain-out, chain-last, chain-more)
+pub ruleset chain-laws = (chain-fits, chain-out, chain-at)
 
 -- ---- a page by its start
 
-module _ (s d : List ℕ) (given w : PageWalk) (start : ℕ) {u : PageWalk} {y : Answer PageWalk Patch} where
-  pub open-chain : 0x8000 ≤ start → u ≡ toChain (start % 0x8000) w → y ≡ chain s d given u → y ≡ opened s d given w start
+module _ (s : List ℕ) (w : PageWalk) (start : ℕ) {u : PageWalk} where
+  pub open-chain : 0x8000 ≤ start → u ≡ toChain (start % 0x8000) w → {y : Sought} → y ≡ chain s u → y ≡ opened s w start
   unfolding opened
   open-chain k j q = let z : start / 1 ≡ start = omega arith in q ∙ rw (j, le-leb 0x8000 start k, z)
 
-  pub open-pointer : start < 0x8000 → u ≡ toPointer false (w .origin + start) w → y ≡ pointer d given u → y ≡ opened s d given w start
+  pub open-pointer : start < 0x8000 → u ≡ toPointer false (w .origin + start) w → sought.At u ≡ opened s w start
   unfolding opened
-  open-pointer k j q = q ∙ rw (j, lt-leb 0x8000 start k)
+  open-pointer k j = rw (j, lt-leb 0x8000 start k)
 
 -- the starts and the page are those of the walk
 module _ (w : PageWalk) {u : PageWalk} {k : ℕ} (j : u ≡ toChain k w) where
@@ -93,59 +81,59 @@ pub ruleset opens = (open-chain, open-pointer, chain-inside, chain-near)
 
 -- ---- the start of a page is due
 
--- the pages before that of w have no chain, and from there on the call is still to be answered
-pub record Paging (s d : List ℕ) (given w : PageWalk) : Type 0 where
-  pub inside : given .segment .place + 2 * given .segment .count ≤ length s
-  pub same : w .segment ≡ given .segment
-  pub rest : pages s d given (given .segment .pages - given .page) given ≡ pages s d given (given .segment .pages - w .page) w
+-- the pages before that of w have no chain, and from there on the search goes on
+pub record Paging (s : List ℕ) (from w : PageWalk) : Type 0 where
+  pub inside : from .segment .place + 2 * from .segment .count ≤ length s
+  pub same : w .segment ≡ from .segment
+  pub rest : pages s (from .segment .pages - from .page) from ≡ pages s (from .segment .pages - w .page) w
 
-module _ (s d : List ℕ) (given : PageWalk) where
-  pub paging-starts : given .segment .place + 2 * given .segment .count ≤ length s → Paging s d given given
+module _ (s : List ℕ) (from : PageWalk) where
+  pub paging-starts : from .segment .place + 2 * from .segment .count ≤ length s → Paging s from from
   paging-starts h = record { inside = h; same = refl; rest = refl }
 
-  -- what the pages are to answer
-  abbrev Whole : Answer PageWalk Patch
-  Whole = pages s d given (given .segment .pages - given .page) given
+  -- what the pages come to
+  abbrev Whole : Sought
+  Whole = pages s (from .segment .pages - from .page) from
 
-  module _ {w : PageWalk} (p : Paging s d given w) where
-    pub paging-end : given .segment .pages ≤ w .page → end w ≡ Whole
+  module _ {w : PageWalk} (p : Paging s from w) where
+    pub paging-end : from .segment .pages ≤ w .page → sought.End w ≡ Whole
     unfolding pages
-    paging-end h = sym (p .rest ∙ ap (λ (n : ℕ). pages s d given n w) none-left)
+    paging-end h = sym (p .rest ∙ ap (λ (n : ℕ). pages s n w) none-left)
       where
-        none-left : given .segment .pages - w .page ≡ 0
+        none-left : from .segment .pages - w .page ≡ 0
         none-left = omega arith
 
-    module _ (h : w .page < given .segment .pages) where
+    module _ (h : w .page < from .segment .pages) where
       pub paging-page : w .page < w .segment .pages
       paging-page = rw (p .same) h
 
-      module _ {r : Number} (e : r ≡ startAt s (given .segment) (w .page)) where
+      module _ {r : Number} (e : r ≡ startAt s (from .segment) (w .page)) where
         -- what follows the start of the page
-        abbrev Behind : Number → Answer PageWalk Patch
+        abbrev Behind : Number → Sought
         Behind q =
-            thenNumber q (refusing given BeyondStarts)
-            (λ start behind. cond (isNone start) (pages s d given (given .segment .pages - (w .page + 1)) (onPage w)) (opened s d given (onPage w) start))
+            thenNumber q sought.Beyond
+            (λ start after. cond (isNone start) (pages s (from .segment .pages - (w .page + 1)) (onPage w)) (opened s (onPage w) start))
 
         by-start : {q : Number} → r ≡ q → Whole ≡ Behind q
         unfolding pages
         by-start f =
-            p .rest ∙ ap (λ (n : ℕ). pages s d given n w) next-left
+            p .rest ∙ ap (λ (n : ℕ). pages s n w) next-left
             ∙ ap Behind (ap (λ (g : Segment). startAt s g (w .page)) (p .same) ∙ sym e ∙ f)
           where
-            next-left : given .segment .pages - w .page ≡ suc (given .segment .pages - (w .page + 1))
+            next-left : from .segment .pages - w .page ≡ suc (from .segment .pages - (w .page + 1))
             next-left = omega arith
 
-        pub paging-out : r ≡ Fault → {y : Answer PageWalk Patch} → y ≡ refusing given BeyondStarts → y ≡ Whole
+        pub paging-out : r ≡ Fault → sought.Beyond ≡ Whole
         unfolding thenNumber
-        paging-out f q = q ∙ sym (by-start f)
+        paging-out f = sym (by-start f)
 
         module _ {start next : ℕ} (f : r ≡ Value start next) {v : PageWalk} (i : v ≡ onPage w) where
-          pub paging-none : start ≡ 0xffff → Paging s d given v
+          pub paging-none : start ≡ 0xffff → Paging s from v
           unfolding thenNumber
           paging-none n =
               record { inside = p .inside; same = rw i (p .same); rest = by-start f ∙ rw (eq-eqb start 0xffff n, i) }
 
-          pub paging-open : (start ≡ 0xffff → ⊥) → {y : Answer PageWalk Patch} → y ≡ opened s d given v start → y ≡ Whole
+          pub paging-open : (start ≡ 0xffff → ⊥) → {y : Sought} → y ≡ opened s v start → y ≡ Whole
           unfolding thenNumber
           paging-open n q = q ∙ rw i (sym (by-start f ∙ rw (ne-eqb start 0xffff n)))
 
@@ -156,6 +144,39 @@ pub paging-less : (w : PageWalk) {v : PageWalk} {n : ℕ} → w .page < n → v 
 paging-less w h i = rw i (omega arith)
 
 pub ruleset paging = (paging-starts, paging-end, paging-page, paging-out, paging-none, paging-open, paging-inside, paging-less)
+
+-- ---- by what is due
+
+module _ (s : List ℕ) (w : PageWalk) where
+  sought-by : {linked more : Bool} → w .linked ≡ linked → w .more ≡ more → seek s w ≡ soughtBy s linked more w
+  sought-by h i = ap₂ (λ (a b : Bool). soughtBy s a b w) h i
+
+  pub seek-pointer : w .linked ≡ true → sought.At w ≡ seek s w
+  unfolding soughtBy
+  seek-pointer h = sym (sought-by h refl)
+
+  module _ (h : w .linked ≡ false) {y : Sought} where
+    pub seek-chain : w .more ≡ true → y ≡ chain s w → y ≡ seek s w
+    unfolding soughtBy
+    seek-chain i q = q ∙ sym (sought-by h i)
+
+    pub seek-pages : w .more ≡ false → y ≡ pages s (w .segment .pages - w .page) w → y ≡ seek s w
+    unfolding soughtBy
+    seek-pages i q = q ∙ sym (sought-by h i)
+
+pub ruleset seeks = (seek-pointer, seek-chain, seek-pages)
+
+-- ---- a pointer is due
+
+module _ (d : List ℕ) (given w : PageWalk) {r : Number} (e : r ≡ fieldAt (widthOf (w .segment .format)) d (w .offset)) {y : Answer PageWalk Fixed} where
+  pub pointer-out : r ≡ Fault → y ≡ refusing given PointerOutside → y ≡ pointer d given w
+  unfolding pointer thenNumber
+  pointer-out f q = rw (sym e ∙ f) q
+
+  pub pointer-read : {n next : ℕ} → r ≡ Value n next → {x : Fixing} → x ≡ fixingOf (w .segment .format) (w .base) n → {k : ℕ} → k ≡ nextOf (w .segment .format) n →
+      {v : PageWalk} → v ≡ onward k w → y ≡ item (fixed (w .offset) x) v → y ≡ pointer d given w
+  unfolding pointer thenNumber
+  pointer-read f g h i q = rw (sym e ∙ f) (q ∙ rw (g, i, h))
 
 -- ---- a call
 
@@ -171,30 +192,32 @@ module _ (s d : List ℕ) (w : PageWalk) {r : Bool} (e : r ≡ outOfRange w (len
     pub call-near : w .origin ≤ farthest
     call-near = in-range s w (sym e ∙ f) .near
 
-    pub call-ended : w .ended ≡ true → end w ≡ call s d w
+    pub call-within : call s d w ≡ cond (w .ended) (end w) (answered d w (seek s w))
     unfolding call
-    call-ended g =
-        sym (ap (λ (b : Bool). cond b (refused (numberOf StateOutOfRange) w) (cond (w .ended) (end w) (called s d w (w .linked) (w .more)))) (sym e ∙ f)
-        ∙ ap (λ (b : Bool). cond b (end w) (called s d w (w .linked) (w .more))) g)
+    call-within =
+        ap (λ (b : Bool). cond b (refused (numberOf StateOutOfRange) w) (cond (w .ended) (end w) (answered d w (seek s w)))) (sym e ∙ f)
+
+    pub call-ended : w .ended ≡ true → end w ≡ call s d w
+    call-ended g = sym (call-within ∙ ap (λ (b : Bool). cond b (end w) (answered d w (seek s w))) g)
 
     module _ (g : w .ended ≡ false) where
-      pub by-due : {linked more : Bool} → w .linked ≡ linked → w .more ≡ more → call s d w ≡ called s d w linked more
-      unfolding call
-      by-due h i =
-          ap (λ (b : Bool). cond b (refused (numberOf StateOutOfRange) w) (cond (w .ended) (end w) (called s d w (w .linked) (w .more)))) (sym e ∙ f)
-          ∙ ap (λ (b : Bool). cond b (end w) (called s d w (w .linked) (w .more))) g
-          ∙ ap₂ (λ (a b : Bool). called s d w a b) h i
+      pub call-live : call s d w ≡ answered d w (seek s w)
+      call-live = call-within ∙ ap (λ (b : Bool). cond b (end w) (answered d w (seek s w))) g
 
-      pub call-pointer : {y : Answer PageWalk Patch} → w .linked ≡ true → y ≡ pointer d w w → y ≡ call s d w
-      unfolding called
-      call-pointer h q = q ∙ sym (by-due h refl)
+      module _ {x : Sought} (h : x ≡ seek s w) where
+        by-sought : {q : Sought} → x ≡ q → call s d w ≡ answered d w q
+        by-sought k = call-live ∙ ap (answered d w) (sym h ∙ k)
 
-      pub call-chain : {y : Answer PageWalk Patch} → w .linked ≡ false → w .more ≡ true → y ≡ chain s d w w → y ≡ call s d w
-      unfolding called
-      call-chain h i q = q ∙ sym (by-due h i)
+        pub call-at : {v : PageWalk} {y : Answer PageWalk Fixed} → x ≡ sought.At v → y ≡ pointer d w v → y ≡ call s d w
+        unfolding answered
+        call-at k q = q ∙ sym (by-sought k)
 
-      pub call-pages : {y : Answer PageWalk Patch} → w .linked ≡ false → w .more ≡ false → y ≡ pages s d w (w .segment .pages - w .page) w → y ≡ call s d w
-      unfolding called
-      call-pages h i q = q ∙ sym (by-due h i)
+        pub call-end : {v : PageWalk} {y : Answer PageWalk Fixed} → x ≡ sought.End v → y ≡ end v → y ≡ call s d w
+        unfolding answered
+        call-end k q = q ∙ sym (by-sought k)
 
-pub ruleset call-laws = (call-out, call-inside, call-near, call-ended, call-pointer, call-chain, call-pages)
+        pub call-beyond : {y : Answer PageWalk Fixed} → x ≡ sought.Beyond → y ≡ refusing w BeyondStarts → y ≡ call s d w
+        unfolding answered
+        call-beyond k q = q ∙ sym (by-sought k)
+
+pub ruleset call-laws = (call-out, call-inside, call-near, call-ended, call-at, call-end, call-beyond)

@@ -15,9 +15,8 @@ use Rattle.numbers.specs.LittleEndian.{fieldAt}
 use Rattle.numbers.specs.Then.{thenNumber}
 use Rattle.numbers.specs.declared.Number.{Number}
 use Rattle.numbers.specs.declared.Number.the-variants.{Value, Fault}
-use Rattle.pages.specs.ChainedPointers.{isNarrow, widthOf, nextOf}
-use Rattle.pages.specs.Listing.{patch, outside, linked, chainIn, chain}
-use Rattle.pages.specs.declared.Patch.{Patch}
+use Rattle.pages.specs.ChainedPointers.{isNarrow, widthOf, fixingOf, nextOf, Fixed, fixed}
+use Rattle.pages.specs.Listing.{outside, following, chainIn, chain}
 use Rattle.runs.specs.Runs.{Run, stops, gives}
 
 -- a pointer has bytes
@@ -30,19 +29,19 @@ has-width format = by (isNarrow format)
 
 module _ (s d : List ℕ) (g : Segment) (base : ℕ) where
   -- what follows the read of a pointer, with what lists the rest of its chain
-  abbrev Behind : (rest : ℕ → Run Patch) (place : ℕ) → Number → Run Patch
+  abbrev Behind : (rest : ℕ → Run Fixed) (place : ℕ) → Number → Run Fixed
   Behind rest place x =
-      thenNumber x outside (λ n behind. gives (patch g base place n) (linked rest place (nextOf (g .format) n)))
+      thenNumber x outside (λ n after. gives (fixed place (fixingOf (g .format) base n)) (following rest place (nextOf (g .format) n)))
 
   no-pointer : (place : ℕ) → length d ≤ place → fieldAt (widthOf (g .format)) d place ≡ Fault
   no-pointer place h = field-out (widthOf (g .format)) d place (omega (arith, has-width (g .format)))
 
   -- what lists alike, lists the rest alike
-  by-read : (rest more : ℕ → Run Patch) (place : ℕ) → ((next : ℕ) → (next ≡ 0 → ⊥) → rest (place + next) ≡ more (place + next)) → (x : Number) →
+  by-read : (rest more : ℕ → Run Fixed) (place : ℕ) → ((next : ℕ) → (next ≡ 0 → ⊥) → rest (place + next) ≡ more (place + next)) → (x : Number) →
       Behind rest place x ≡ Behind more place x
   unfolding thenNumber
   by-read rest more place h Fault = refl
-  by-read rest more place h (Value n behind) = ap (gives (patch g base place n)) (by-next (nextOf (g .format) n) (eqb (nextOf (g .format) n) 0) refl)
+  by-read rest more place h (Value n after) = ap (gives (fixed place (fixingOf (g .format) base n))) (by-next (nextOf (g .format) n) (eqb (nextOf (g .format) n) 0) refl)
     where
       by-next : (next : ℕ) (t : Bool) → eqb next 0 ≡ t → cond t stops (rest (place + next)) ≡ cond t stops (more (place + next))
       by-next next true e = refl

@@ -1,8 +1,9 @@
 -- Calls from a start on say what the chains of the segment list, and nothing else. Assumes nothing.
 use Prim.Native.Nat.{ℕ, _-_, _^_, _≤_, _<_}
-use mathlib.Core.Path.{_≡_, refl, ap, _∙_, subst}
+use mathlib.Core.Path.{_≡_, refl, ap, sym, subst}
 use mathlib.Core.Bool.{Bool, true, false, cond}
 use mathlib.Core.List.{List}
+use mathlib.Core.Logic.{_⊎_, inl, inr}
 use native.Mathlib.Omega.{arith}
 use borrow.Author.Tests.{le-ltb}
 use lib.Dec.{eqb}
@@ -13,12 +14,11 @@ use Rattle.pages.proofs.Ahead.{ahead, says}
 use Rattle.pages.proofs.Answers.{by-call}
 use Rattle.pages.proofs.Moves.{origin-within}
 use Rattle.pages.specs.Call.{startsOut, atStart, begin, onward, farthest, outOfRange, call}
-use Rattle.pages.specs.ChainedPointers.{isFormat, nextOf}
+use Rattle.pages.specs.ChainedPointers.{isFormat, nextOf, Fixed}
 use Rattle.pages.specs.Listing.{pages, listing}
 use Rattle.pages.specs.declared.PageWalk.{PageWalk}
-use Rattle.pages.specs.declared.Patch.{Patch}
 use Rattle.runs.proofs.Walks.{Stays, walks-ahead, walks-one}
-use Rattle.runs.specs.Runs.{Begin, begun, notBegun, Run, Walks}
+use Rattle.runs.specs.Runs.{Begin, begun, notBegun, Run, fails, Walks}
 
 -- what the types hold: a page size and a number of pages are u16, and a slice has less than 2^64 bytes
 pub record Typed (g : Segment) (d : List ℕ) : Type 0 where
@@ -28,14 +28,14 @@ pub record Typed (g : Segment) (d : List ℕ) : Type 0 where
 
 module _ (s d : List ℕ) where
   -- a walk that goes on: in range, and not ended
-  record Going (g : Segment) (origin : ℕ) (ended : Bool) : Type 0 where
-    typed : Typed g d
-    inside : startsOut g (length s) ≡ false
-    format : isFormat (g .format) ≡ true
-    near : origin ≤ farthest
-    live : ended ≡ false
+  pub record Going (g : Segment) (origin : ℕ) (ended : Bool) : Type 0 where
+    pub typed : Typed g d
+    pub inside : startsOut g (length s) ≡ false
+    pub format : isFormat (g .format) ≡ true
+    pub near : origin ≤ farthest
+    pub live : ended ≡ false
 
-  abbrev Goes : PageWalk → Type 0
+  abbrev pub Goes : PageWalk → Type 0
   Goes w = Going (w .segment) (w .origin) (w .ended)
 
   in-range : (w : PageWalk) → Goes w → outOfRange w (length s) ≡ false
@@ -45,11 +45,8 @@ module _ (s d : List ℕ) where
   goes : (w : PageWalk) → Goes w → Stays Goes (call s d w)
   unfolding onward
   goes w h =
-      by-call s d {I = Goes} {Q = Stays Goes}
+      by-call s d w {I = Goes} (Stays Goes)
       (record {
-        refuses = λ e. tt;
-        ends = λ v i. tt;
-        gives = λ v n i. by-pick Goes (eqb (nextOf (v .segment .format) n) 0) _ _ i i;
         on-page =
             λ v l i.
             record {
@@ -62,10 +59,13 @@ module _ (s d : List ℕ) where
         to-chain = λ v index i. i;
         to-pointer = λ v more offset i. i;
       })
+      (λ e. tt)
+      (λ v i. tt)
+      (λ v n i. by-pick Goes (eqb (nextOf (v .segment .format) n) 0) _ _ i i)
       (in-range w h) (h .live) h
 
-  -- calls from any state that goes on say what it has still to list; so every walk ends
-  walks : (w : PageWalk) → Goes w → Walks (call s d) w (ahead s d w)
+  -- calls from any state that goes on, made up or not, say what it has still to list; so every walk ends
+  pub walks : (w : PageWalk) → Goes w → Walks (call s d) w (ahead s d w)
   walks = walks-ahead (call s d) (ahead s d) Goes (λ w h. says s d (h .typed .room) w (in-range w h) (h .live)) goes
 
   -- ---- a start
@@ -73,29 +73,34 @@ module _ (s d : List ℕ) where
   module _ (g : Segment) (base : ℕ) (t : Typed g d) where
     record Begins (w : PageWalk) : Type 0 where
       going : Goes w
-      is : w ≡ atStart g base
+      all : listing s d g base ≡ ahead s d w
 
-    abbrev IfBegun : Begin PageWalk → Type 0
-    IfBegun (begun w) = Begins w
-    IfBegun (notBegun n) = Unit {0}
+    abbrev Starts : Begin PageWalk → Type 0
+    Starts (begun w) = Begins w
+    Starts (notBegun n) = (n ≡ 19) ⊎ (listing s d g base ≡ fails n)
 
-    begins : IfBegun (begin s g base)
-    unfolding begin
-    begins = by (startsOut g (length s)) (isFormat (g .format)) refl refl
+    starts : Starts (begin s g base)
+    unfolding begin listing
+    starts = by (startsOut g (length s)) (isFormat (g .format)) refl refl
       where
-        by : (a b : Bool) → startsOut g (length s) ≡ a → isFormat (g .format) ≡ b → IfBegun (cond a (notBegun 19) (cond b (begun (atStart g base)) (notBegun 11)))
-        by true b e f = tt
-        by false true e f = record { going = record { typed = t; inside = e; format = f; near = omega arith; live = refl }; is = refl }
-        by false false e f = tt
+        by : (a b : Bool) → startsOut g (length s) ≡ a → isFormat (g .format) ≡ b → Starts (cond a (notBegun 19) (cond b (begun (atStart g base)) (notBegun 11)))
+        by true b e f = inl refl
+        by false true e f =
+            let z : g .pages ≡ g .pages - 0 = omega arith in
+            record {
+              going = record { typed = t; inside = e; format = f; near = omega arith; live = refl };
+              all = rw f (ap (λ (n : ℕ). pages s d g base n 0) z);
+            }
+        by false false e f = inr (rw f)
 
     -- calls from a start on say what the chains list
     pub joined : (w : PageWalk) → begin s g base ≡ begun w → Walks (call s d) w (listing s d g base)
-    unfolding listing
-    joined w e =
-        let b = subst IfBegun e begins in
-        let z : g .pages - 0 ≡ g .pages = omega arith in
-        subst (Walks (call s d) w) (ap (ahead s d) (b .is) ∙ ap (λ (n : ℕ). pages s d g base n 0) z) (walks w (b .going))
+    joined w e = let b = subst Starts e starts in subst (Walks (call s d) w) (sym (b .all)) (walks w (b .going))
 
     -- and nothing else
-    pub joined-only : (w : PageWalk) {r : Run Patch} → begin s g base ≡ begun w → Walks (call s d) w r → r ≡ listing s d g base
+    pub joined-only : (w : PageWalk) {r : Run Fixed} → begin s g base ≡ begun w → Walks (call s d) w r → r ≡ listing s d g base
     joined-only w e h = walks-one (call s d) h (joined w e)
+
+    -- a start is refused for its record, 19, or the listing is that refusal
+    pub not-begun : {n : ℕ} → begin s g base ≡ notBegun n → (n ≡ 19) ⊎ (listing s d g base ≡ fails n)
+    not-begun e = subst Starts e starts

@@ -7,8 +7,8 @@ use lib.ListN.{length}
 use Rattle.pages.proofs.Answers.{by-call}
 use Rattle.pages.proofs.Calls.{call-ended}
 use Rattle.pages.specs.Call.{marked, outOfRange, call}
+use Rattle.pages.specs.ChainedPointers.{Fixed}
 use Rattle.pages.specs.declared.PageWalk.{PageWalk}
-use Rattle.pages.specs.declared.Patch.{Patch}
 use Rattle.refusal.specs.Numbers.{numberOf}
 use Rattle.refusal.specs.declared.Refusal.the-variants.{StateOutOfRange}
 use Rattle.runs.proofs.Walks.{IfRefused}
@@ -21,7 +21,7 @@ module _ (s d : List ℕ) (w : PageWalk) where
   out-of-range e = rw e
 
   module _ (i : outOfRange w (length s) ≡ false) where
-    abbrev Marked : Answer PageWalk Patch → Type 0
+    abbrev Marked : Answer PageWalk Fixed → Type 0
     Marked = IfRefused (λ v. v ≡ marked w)
 
     marks : Marked (call s d w)
@@ -30,16 +30,9 @@ module _ (s d : List ℕ) (w : PageWalk) where
         by-ended : (t : Bool) → w .ended ≡ t → Marked (call s d w)
         by-ended true e = subst Marked (call-ended s d w refl i e) tt
         by-ended false e =
-            by-call s d {I = λ v. Unit {0}} {Q = Marked}
-            (record {
-              refuses = λ e. refl;
-              ends = λ v i. tt;
-              gives = λ v n i. tt;
-              on-page = λ v l i. tt;
-              to-chain = λ v index i. tt;
-              to-pointer = λ v more offset i. tt;
-            })
-            i e tt
+            by-call s d w {I = λ v. Unit {0}} Marked
+            (record { on-page = λ v l i. tt; to-chain = λ v index i. tt; to-pointer = λ v more offset i. tt })
+            (λ e. refl) (λ v i. tt) (λ v n i. tt) i e tt
 
     -- any other refusal hands back the state as given, marked as ended
     pub marked-ended : {number : ℕ} {v : PageWalk} → call s d w ≡ refused number v → v ≡ marked w

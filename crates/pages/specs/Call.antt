@@ -8,10 +8,10 @@ use lib.ListN.{length}
 use Rattle.chains.specs.declared.Segment.{Segment}
 use Rattle.numbers.specs.LittleEndian.{fieldAt}
 use Rattle.numbers.specs.Then.{thenNumber}
-use Rattle.pages.specs.ChainedPointers.{startAt, isNone, isMarked, unmarked, isFormat, widthOf, nextOf}
-use Rattle.pages.specs.Listing.{patch}
+use Rattle.pages.specs.ChainedPointers.{startAt, isNone, isMarked, unmarked, isFormat, widthOf, fixingOf, nextOf, Fixed, fixed}
 use Rattle.pages.specs.declared.PageWalk.{PageWalk}
-use Rattle.pages.specs.declared.Patch.{Patch}
+use Rattle.pages.specs.declared.Sought.{Sought}
+use Rattle.pages.specs.declared.Sought.the-variants as sought
 use Rattle.refusal.specs.Numbers.{numberOf}
 use Rattle.refusal.specs.declared.Refusal.{Refusal}
 use Rattle.refusal.specs.declared.Refusal.the-variants.{UnsupportedFormat, BeyondStarts, PointerOutside, StateOutOfRange}
@@ -76,62 +76,71 @@ toChain index w = moved w false true (w .page) index (w .origin) (w .offset)
 abbrev pub toPointer : (more : Bool) (offset : ℕ) → PageWalk → PageWalk
 toPointer more offset w = moved w true more (w .page) (w .chain) (w .origin) offset
 
--- a pointer is read, and the next of its chain is so far behind it; 0 where there is none. An offset that a u64 has not is its largest: no
--- pointer lies there
+-- a pointer was read; the next of its chain is `next` bytes after it, 0 if it is the last. A sum above 2^64 - 1 becomes 2^64 - 1, where no
+-- pointer lies
 unfoldable pub onward : (next : ℕ) → PageWalk → PageWalk
 onward next w =
     cond (eqb next 0)
     (moved w false (w .more) (w .page) (w .chain) (w .origin) (w .offset))
     (moved w (w .linked) (w .more) (w .page) (w .chain) (w .origin) (min (w .offset + next) (2 ^ 64 - 1)))
 
+-- ---- the next pointer
+
+module _ (s : List ℕ) where
+  -- the start of a chain is due
+  unfoldable pub chain : PageWalk → Sought
+  chain w =
+      thenNumber (startAt s (w .segment) (w .chain)) sought.Beyond
+      (λ start after. sought.At (toPointer (not (isMarked start)) (w .origin + unmarked start) (toChain (w .chain + 1) w)))
+
+  -- a page by its start: a list of chains, or one chain
+  unfoldable pub opened : PageWalk → (start : ℕ) → Sought
+  opened w start = cond (isMarked start) (chain (toChain (unmarked start) w)) (sought.At (toPointer false (w .origin + start) w))
+
+  -- the start of a page is due, and n pages are left
+  unfoldable pub pages : (n : ℕ) → PageWalk → Sought
+  pages zero w = sought.End w
+  pages (suc n) w =
+      thenNumber (startAt s (w .segment) (w .page)) sought.Beyond
+      (λ start after. cond (isNone start) (pages n (onPage w)) (opened (onPage w) start))
+
+  -- by what is due
+  unfoldable pub soughtBy : (linked more : Bool) → PageWalk → Sought
+  soughtBy true more w = sought.At w
+  soughtBy false true w = chain w
+  soughtBy false false w = pages (w .segment .pages - w .page) w
+
+  abbrev pub seek : PageWalk → Sought
+  seek w = soughtBy (w .linked) (w .more) w
+
 -- ---- a call
 
 -- any refusal but 19 hands back the state as given, marked as ended
-abbrev pub refusing : (given : PageWalk) → Refusal → Answer PageWalk Patch
+abbrev pub refusing : (given : PageWalk) → Refusal → Answer PageWalk Fixed
 refusing given e = refused (numberOf e) (marked given)
 
 -- a pointer is due
-unfoldable pub pointer : List ℕ → (given : PageWalk) → PageWalk → Answer PageWalk Patch
+unfoldable pub pointer : List ℕ → (given : PageWalk) → PageWalk → Answer PageWalk Fixed
 pointer d given w =
     thenNumber (fieldAt (widthOf (w .segment .format)) d (w .offset)) (refusing given PointerOutside)
-    (λ n behind. item (patch (w .segment) (w .base) (w .offset) n) (onward (nextOf (w .segment .format) n) w))
+    (λ n after. item (fixed (w .offset) (fixingOf (w .segment .format) (w .base) n)) (onward (nextOf (w .segment .format) n) w))
 
-module _ (s d : List ℕ) (given : PageWalk) where
-  -- the start of a chain is due
-  unfoldable pub chain : PageWalk → Answer PageWalk Patch
-  chain w =
-      thenNumber (startAt s (w .segment) (w .chain)) (refusing given BeyondStarts)
-      (λ start behind. pointer d given (toPointer (not (isMarked start)) (w .origin + unmarked start) (toChain (w .chain + 1) w)))
+unfoldable pub answered : List ℕ → (given : PageWalk) → Sought → Answer PageWalk Fixed
+answered d given (sought.At w) = pointer d given w
+answered d given (sought.End w) = end w
+answered d given sought.Beyond = refusing given BeyondStarts
 
-  -- a page by its start: a list of chains, or one chain
-  unfoldable pub opened : PageWalk → (start : ℕ) → Answer PageWalk Patch
-  opened w start =
-      cond (isMarked start) (chain (toChain (unmarked start) w))
-      (pointer d given (toPointer false (w .origin + start) w))
-
-  -- the start of a page is due, and n pages are left
-  unfoldable pub pages : (n : ℕ) → PageWalk → Answer PageWalk Patch
-  pages zero w = end w
-  pages (suc n) w =
-      thenNumber (startAt s (w .segment) (w .page)) (refusing given BeyondStarts) (λ start behind. cond (isNone start) (pages n (onPage w)) (opened (onPage w) start))
-
-  -- by what is due
-  unfoldable pub called : (linked more : Bool) → Answer PageWalk Patch
-  called true more = pointer d given given
-  called false true = chain given
-  called false false = pages (given .segment .pages - given .page) given
-
--- the largest origin that a page can have
+-- above the offset of every page: 65,535 pages of 65,535 bytes
 abbrev pub farthest : ℕ
 farthest = 65535 * 65535
 
--- 19: the starts do not lie in the bytes, the format is none, or the origin is that of no page. Indexes and the pointer's offset may be any:
--- they fall to 12 and 13
+-- 19: the starts do not lie in the bytes, the format is not 2, 3 or 6, or the page's offset is above `farthest`. Indexes and the pointer's
+-- offset may be any: they fall to 12 and 13
 abbrev pub outOfRange : PageWalk → (len : ℕ) → Bool
 outOfRange w len = startsOut (w .segment) len || (not (isFormat (w .segment .format)) || ltb farthest (w .origin))
 
-unfoldable pub call : List ℕ → List ℕ → PageWalk → Answer PageWalk Patch
+unfoldable pub call : List ℕ → List ℕ → PageWalk → Answer PageWalk Fixed
 call s d w =
     cond (outOfRange w (length s)) (refused (numberOf StateOutOfRange) w)
     (cond (w .ended) (end w)
-    (called s d w (w .linked) (w .more)))
+    (answered d w (seek s w)))

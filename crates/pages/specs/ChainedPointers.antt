@@ -9,10 +9,8 @@ use Rattle.chains.specs.declared.Segment.{Segment}
 use Rattle.numbers.specs.LittleEndian.{fieldAt}
 use Rattle.numbers.specs.declared.Number.{Number}
 use Rattle.numbers.specs.declared.Number.the-variants as number
-use Rattle.pages.specs.declared.pointer.Fixup.{Fixup}
-use Rattle.pages.specs.declared.pointer.Fixup.the-variants as fixup
 
--- ---- starts: for each page one of two bytes, and the lists of chains behind them
+-- ---- starts, of two bytes each: one for each page, then the lists of chains
 
 -- a start of a segment, and the place behind it
 unfoldable pub startAt : List ℕ → Segment → (index : ℕ) → Number
@@ -22,7 +20,8 @@ startAt s g index = cond (ltb index (g .count)) (fieldAt 2 s (g .place + 2 * ind
 abbrev pub isNone : (start : ℕ) → Bool
 isNone start = eqb start 0xffff
 
--- DYLD_CHAINED_PTR_START_MULTI: the page has several; of a chain in a list, DYLD_CHAINED_PTR_START_LAST: it is the last
+-- 0x8000. Of a page, DYLD_CHAINED_PTR_START_MULTI: it has a list of chains. Of an entry of such a list, DYLD_CHAINED_PTR_START_LAST: it is
+-- the last
 abbrev pub isMarked : (start : ℕ) → Bool
 isMarked start = leb 0x8000 start
 
@@ -43,7 +42,7 @@ isNarrow format = eqb format 3
 abbrev pub widthOf : (format : ℕ) → ℕ
 widthOf format = cond (isNarrow format) 4 8
 
--- what targets are counted from: the address that the image prefers, or its start
+-- what is taken off a target: the preferred load address, or 0 where targets are offsets already
 abbrev pub baseOf : (format base : ℕ) → ℕ
 baseOf format base = cond (eqb format 6) 0 base
 
@@ -53,34 +52,43 @@ stride = 4
 
 -- ---- pointers
 
+-- what the loader makes of a pointer: it is to be this far from the start of the image, or the import of this index and so much more
+pub data Fixing : Type 0 where
+  rebase : (target : ℕ) → Fixing
+  bind : (ordinal addend : ℕ) → Fixing
+
+-- modulo 2^64
 abbrev pub minus : (target base : ℕ) → ℕ
 minus target base = (target + 2 ^ 64 - base) % 2 ^ 64
 
-abbrev pub rebase : (target : ℕ) → Fixup
-rebase target = fixup.Rebase (record { target = target })
-
-abbrev pub bind : (ordinal addend : ℕ) → Fixup
-bind ordinal addend = fixup.Bind (record { ordinal = ordinal; addend = addend })
-
--- dyld_chained_ptr_64_rebase: target 36, high8 8, reserved 7, next 12, bind 1
--- dyld_chained_ptr_64_bind: ordinal 24, addend 8, reserved 19, next 12, bind 1
-unfoldable pub wideFixup : (base n : ℕ) → Fixup
-wideFixup base n =
+-- first bits, and widths in brackets:
+-- dyld_chained_ptr_64_rebase: target 0 (36), high8 36 (8), reserved 44 (7), next 51 (12), bind 63 (1)
+-- dyld_chained_ptr_64_bind: ordinal 0 (24), addend 24 (8), reserved 32 (19), next 51 (12), bind 63 (1)
+unfoldable pub wideFixing : (base n : ℕ) → Fixing
+wideFixing base n =
     cond (eqb (bits 63 1 n) 1)
     (bind (bits 0 24 n) (bits 24 8 n))
     (rebase (bitOr (minus (bits 0 36 n) base) (bits 36 8 n * 2 ^ 56)))
 
--- dyld_chained_ptr_32_rebase: target 26, next 5, bind 1
--- dyld_chained_ptr_32_bind: ordinal 20, addend 6, next 5, bind 1
-unfoldable pub narrowFixup : (base n : ℕ) → Fixup
-narrowFixup base n =
+-- dyld_chained_ptr_32_rebase: target 0 (26), next 26 (5), bind 31 (1)
+-- dyld_chained_ptr_32_bind: ordinal 0 (20), addend 20 (6), next 26 (5), bind 31 (1)
+unfoldable pub narrowFixing : (base n : ℕ) → Fixing
+narrowFixing base n =
     cond (eqb (bits 31 1 n) 1)
     (bind (bits 0 20 n) (bits 20 6 n))
     (rebase (minus (bits 0 26 n) base))
 
-unfoldable pub fixupOf : (format base n : ℕ) → Fixup
-fixupOf format base n = cond (isNarrow format) (narrowFixup base n) (wideFixup (baseOf format base) n)
+unfoldable pub fixingOf : (format base n : ℕ) → Fixing
+fixingOf format base n = cond (isNarrow format) (narrowFixing (baseOf format base) n) (wideFixing (baseOf format base) n)
 
--- how far behind a pointer the next one is; 0 for the last of a chain
+-- how many bytes after a pointer the next one is; 0 ends the chain
 unfoldable pub nextOf : (format n : ℕ) → ℕ
 nextOf format n = stride * cond (isNarrow format) (bits 26 5 n) (bits 51 12 n)
+
+-- a pointer with its place in the segment
+pub record Fixed : Type 0 where
+  pub place : ℕ
+  pub fixing : Fixing
+
+abbrev pub fixed : (place : ℕ) → Fixing → Fixed
+fixed place x = record { place = place; fixing = x }

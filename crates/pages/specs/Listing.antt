@@ -8,56 +8,52 @@ use lib.ListN.{length}
 use Rattle.chains.specs.declared.Segment.{Segment}
 use Rattle.numbers.specs.LittleEndian.{fieldAt}
 use Rattle.numbers.specs.Then.{thenNumber}
-use Rattle.pages.specs.ChainedPointers.{startAt, isNone, isMarked, unmarked, widthOf, fixupOf, nextOf}
-use Rattle.pages.specs.declared.Patch.{Patch}
+use Rattle.pages.specs.ChainedPointers.{startAt, isNone, isMarked, unmarked, isFormat, widthOf, fixingOf, nextOf, Fixed, fixed}
 use Rattle.refusal.specs.Numbers.{numberOf}
-use Rattle.refusal.specs.declared.Refusal.the-variants.{BeyondStarts, PointerOutside}
+use Rattle.refusal.specs.declared.Refusal.the-variants.{UnsupportedFormat, BeyondStarts, PointerOutside}
 use Rattle.runs.specs.Runs.{Run, stops, fails, gives, _then_}
 
-abbrev pub patch : Segment → (base place n : ℕ) → Patch
-patch g base place n = record { place = place; fixup = fixupOf (g .format) base n }
-
-abbrev pub outside : Run Patch
+abbrev pub outside : Run Fixed
 outside = fails (numberOf PointerOutside)
 
-abbrev pub beyond : Run Patch
+abbrev pub beyond : Run Fixed
 beyond = fails (numberOf BeyondStarts)
 
--- behind a pointer at a place: the rest of its chain, from the next pointer on, which is so far behind it; 0 where there is none
-abbrev pub linked : (rest : ℕ → Run Patch) (place next : ℕ) → Run Patch
-linked rest place next = cond (eqb next 0) stops (rest (place + next))
+-- what follows a pointer at a place: nothing, or the rest of its chain, from the pointer that is `next` bytes after it
+abbrev pub following : (rest : ℕ → Run Fixed) (place next : ℕ) → Run Fixed
+following rest place next = cond (eqb next 0) stops (rest (place + next))
 
 module _ (s d : List ℕ) (g : Segment) (base : ℕ) where
   -- so many pointers at most
-  unfoldable pub chainIn : (most place : ℕ) → Run Patch
+  unfoldable pub chainIn : (most place : ℕ) → Run Fixed
   chainIn zero place = outside
   chainIn (suc most) place =
       thenNumber (fieldAt (widthOf (g .format)) d place) outside
-      (λ n behind. gives (patch g base place n) (linked (chainIn most) place (nextOf (g .format) n)))
+      (λ n after. gives (fixed place (fixingOf (g .format) base n)) (following (chainIn most) place (nextOf (g .format) n)))
 
   -- a chain, from a pointer on. There are no more pointers than bytes (so none is cut off: `chain-by`, proofs/Chains.antt)
-  unfoldable pub chain : (place : ℕ) → Run Patch
+  unfoldable pub chain : (place : ℕ) → Run Fixed
   chain place = chainIn (length d) place
 
-  -- the chains of a list, from an index on, where n starts are left; offsets are counted from the origin
-  unfoldable pub chains : (n index origin : ℕ) → Run Patch
+  -- the chains of a list, from an index on, where n starts are left; the page is at the origin
+  unfoldable pub chains : (n index origin : ℕ) → Run Fixed
   chains zero index origin = beyond
   chains (suc n) index origin =
       thenNumber (startAt s g index) beyond
-      (λ start behind. chain (origin + unmarked start) then cond (isMarked start) stops (chains n (index + 1) origin))
+      (λ start after. chain (origin + unmarked start) then cond (isMarked start) stops (chains n (index + 1) origin))
 
   -- a page by its start
-  unfoldable pub page : (origin start : ℕ) → Run Patch
+  unfoldable pub page : (origin start : ℕ) → Run Fixed
   page origin start =
       cond (isNone start) stops
       (cond (isMarked start) (chains (g .count - unmarked start) (unmarked start) origin)
       (chain (origin + start)))
 
   -- n pages from an index on
-  unfoldable pub pages : (n index : ℕ) → Run Patch
+  unfoldable pub pages : (n index : ℕ) → Run Fixed
   pages zero index = stops
   pages (suc n) index =
-      thenNumber (startAt s g index) beyond (λ start behind. page (index * g .size) start then pages n (index + 1))
+      thenNumber (startAt s g index) beyond (λ start after. page (index * g .size) start then pages n (index + 1))
 
-  unfoldable pub listing : Run Patch
-  listing = pages (g .pages) 0
+  unfoldable pub listing : Run Fixed
+  listing = cond (isFormat (g .format)) (pages (g .pages) 0) (fails (numberOf UnsupportedFormat))

@@ -5,7 +5,7 @@ ghost use mathlib.Core.Path.{_≡_};
 ghost use Prim.Native.Nat.{_+_, _-_, _*_, _≤_, _<_};
 ghost use lib.ListN.{length};
 ghost use Rattle.numbers.specs.LittleEndian.{fieldAt};
-ghost use Rattle.pages.specs.Call.{startsOut, begin, farthest, outOfRange, marked, onPage, toChain, toPointer, onward, pointer, chain, opened, pages, call};
+ghost use Rattle.pages.specs.Call.{startsOut, begin, farthest, outOfRange, marked, onPage, toChain, toPointer, onward, chain, opened, pages, seek, pointer, call};
 ghost use Rattle.pages.specs.ChainedPointers.{startAt, widthOf};
 ghost use Rattle.pages.specs.Told.{startTold, told};
 ghost use Rattle.refusal.specs.Numbers.{numberOf};
@@ -27,10 +27,10 @@ pub struct Patch {
     pub fixup: Fixup,
 }
 
-// The segment; the address that the image prefers; whether a pointer is due (`linked`), and whether behind
-// its chain, or first, a chain of the page's list is (`more`), else a page; the indexes of the next page
-// and of the next chain; the offset of the page in the segment, and of the next pointer; and whether the
-// walk has ended by a refusal.
+// The segment; the preferred load address; what is due; the indexes of the next page and of the next
+// chain; the offset of the page in the segment, and of the next pointer; and whether the walk has ended by
+// a refusal. What is due: linked and not more, a pointer, then a page; linked and more, a pointer, then the
+// next chain of the page's list; more alone, that chain; neither, a page.
 pub struct PageWalk {
     pub segment: Segment,
     pub base: u64,
@@ -54,14 +54,26 @@ pub enum PageStep {
     Refused(Refusal, PageWalk),
 }
 
-// A page has no chain.
+// Where a search for the next pointer comes to: a pointer that is due, the end, or beyond the starts.
+enum Sought {
+    At(PageWalk),
+    End(PageWalk),
+    Beyond,
+}
+
+// DYLD_CHAINED_PTR_START_NONE: a page has no chain.
 const NONE: u64 = 0xffff;
 
-// A page has several chains, whose starts are in a list; a chain is the last of its list.
+// DYLD_CHAINED_PTR_START_MULTI: a page has a list of chains; DYLD_CHAINED_PTR_START_LAST: a chain is the
+// last of its list.
 const MARK: u64 = 0x8000;
 
+// The largest offset that a page may have: above that of every page, of 65,535 with 65,535 bytes.
+const FARTHEST: u64 = 65535 * 65535;
+
 impl PageWalk {
-    // A walk over the fixups of a segment, whose record is in the bytes of the chained fixups.
+    // A walk over the fixups of a segment, whose record is in the bytes of the chained fixups. The base is
+    // the preferred load address of the image.
     pub fn start(s: &[u8], segment: Segment, base: u64) -> PageStart
         ensures { λ r. ⌜ startTold r ≡ begin (now (s .entry)) segment base ⌝ }
     {
@@ -94,13 +106,11 @@ impl PageWalk {
         if self.ended {
             return PageStep::End(self);
         }
-        if self.linked {
-            return self.pointer(self, d);
+        match self.seek(s) {
+            Sought::At(w) => self.pointer(w, d),
+            Sought::End(w) => PageStep::End(w),
+            Sought::Beyond => self.refused(Refusal::BeyondStarts),
         }
-        if self.more {
-            return self.chain(self, s, d);
-        }
-        self.pages(s, d)
     }
 
     // Whether the state is out of range of so many bytes of chained fixups.
@@ -112,58 +122,69 @@ impl PageWalk {
             return true;
         }
         if pointer::is_format(segment.format) {
-            return 65535 * 65535 < self.origin;
+            return FARTHEST < self.origin;
         }
         true
     }
 
-    // Pages are passed until one has a chain. `self` is the state as it was given, here and below.
-    fn pages(self, s: &[u8], d: &[u8]) -> PageStep
+    // The walk as it stands at the next pointer.
+    fn seek(self, s: &[u8]) -> Sought
+        requires { ⌜ (self .segment .place + 2 * self .segment .count ≤ length (now s)) × (self .origin ≤ farthest) ⌝ }
+        ensures { λ r. ⌜ r ≡ seek (now (s .entry)) self ⌝ }
+    {
+        if self.linked {
+            return Sought::At(self);
+        }
+        if self.more {
+            return self.chain(s);
+        }
+        self.pages(s)
+    }
+
+    // Pages are passed until one has a chain.
+    fn pages(self, s: &[u8]) -> Sought
         requires { ⌜ self .segment .place + 2 * self .segment .count ≤ length (now s) ⌝ }
-        ensures { λ r. ⌜ told r ≡ pages (now (s .entry)) (now (d .entry)) self (self .segment .pages - self .page) self ⌝ }
+        ensures { λ r. ⌜ r ≡ pages (now (s .entry)) (self .segment .pages - self .page) self ⌝ }
     {
         let segment = self.segment;
         let mut w = self;
         while w.page < segment.pages as u64 {
             let Number::Value(start, _) = start_at(s, segment, w.page) else {
-                return self.refused(Refusal::BeyondStarts);
+                return Sought::Beyond;
             };
             w = w.on_page();
             if start != NONE {
-                return self.open_page(w, start, s, d);
+                return w.open_page(start, s);
             }
         }
-        PageStep::End(w)
+        Sought::End(w)
     }
 
     // A page by its start: a list of chains, or one chain.
-    fn open_page(self, w: PageWalk, start: u64, s: &[u8], d: &[u8]) -> PageStep
-        requires { ⌜ (w .segment .place + 2 * w .segment .count ≤ length (now s)) × (w .origin ≤ farthest) ⌝ }
-        ensures { λ r. ⌜ told r ≡ opened (now (s .entry)) (now (d .entry)) self w start ⌝ }
+    fn open_page(self, start: u64, s: &[u8]) -> Sought
+        requires { ⌜ (self .segment .place + 2 * self .segment .count ≤ length (now s)) × (self .origin ≤ farthest) ⌝ }
+        ensures { λ r. ⌜ r ≡ opened (now (s .entry)) self start ⌝ }
     {
         if MARK <= start {
-            return self.chain(w.to_chain(start % MARK), s, d);
+            return self.to_chain(start % MARK).chain(s);
         }
-        self.pointer(w.to_pointer(false, w.origin + start), d)
+        Sought::At(self.to_pointer(false, self.origin + start))
     }
 
     // The next chain of a list.
-    fn chain(self, w: PageWalk, s: &[u8], d: &[u8]) -> PageStep
-        requires { ⌜ (w .segment .place + 2 * w .segment .count ≤ length (now s)) × (w .origin ≤ farthest) ⌝ }
-        ensures { λ r. ⌜ told r ≡ chain (now (s .entry)) (now (d .entry)) self w ⌝ }
+    fn chain(self, s: &[u8]) -> Sought
+        requires { ⌜ (self .segment .place + 2 * self .segment .count ≤ length (now s)) × (self .origin ≤ farthest) ⌝ }
+        ensures { λ r. ⌜ r ≡ chain (now (s .entry)) self ⌝ }
     {
-        let Number::Value(start, _) = start_at(s, w.segment, w.chain) else {
-            return self.refused(Refusal::BeyondStarts);
+        let Number::Value(start, _) = start_at(s, self.segment, self.chain) else {
+            return Sought::Beyond;
         };
-        let next = w.to_chain(w.chain + 1);
-        let offset = w.origin + start % MARK;
-        if MARK <= start {
-            return self.pointer(next.to_pointer(false, offset), d);
-        }
-        self.pointer(next.to_pointer(true, offset), d)
+        let next = self.to_chain(self.chain + 1);
+        let more = start < MARK;
+        Sought::At(next.to_pointer(more, self.origin + start % MARK))
     }
 
-    // The pointer that is due.
+    // The pointer at which `w` stands; `self` is the state as it was given.
     fn pointer(self, w: PageWalk, d: &[u8]) -> PageStep
         ensures { λ r. ⌜ told r ≡ pointer (now (d .entry)) self w ⌝ }
     {
@@ -180,7 +201,7 @@ impl PageWalk {
         }
     }
 
-    // The walk behind a pointer, where the next one is so far behind it.
+    // The walk after a pointer, where the next one is so many bytes after it.
     fn onward(self, next: u64) -> PageWalk
         ensures { λ r. ⌜ r ≡ onward next self ⌝ }
     {

@@ -1,15 +1,15 @@
 // Chained pointers: what a pointer says, by its format.
 ghost use mathlib.Core.Path.{_≡_};
-ghost use Prim.Native.Nat.{ℕ};
-ghost use Rattle.pages.specs.ChainedPointers.{isFormat, isNarrow, minus, narrowFixup, wideFixup, fixupOf, nextOf};
+ghost use Rattle.pages.specs.ChainedPointers.{isFormat, isNarrow, minus, narrowFixing, wideFixing, fixingOf, nextOf};
+ghost use Rattle.pages.specs.Told.{fixupTold};
 use std::num::wrapping_sub_u64;
 
-// The pointer is to be this far behind the start of the image.
+// The pointer is to hold this offset from the start of the image, with high8 in its top byte.
 pub struct Rebase {
     pub target: u64,
 }
 
-// The pointer is to be that of an import, by its index, and so much more.
+// The pointer is to hold the address of the import of this index, plus the addend.
 pub struct Bind {
     pub ordinal: u64,
     pub addend: u64,
@@ -42,7 +42,7 @@ pub(crate) fn is_narrow(format: u16) -> bool
 
 // What the pointer n says.
 pub(crate) fn meaning(format: u16, base: u64, n: u64) -> Fixup
-    ensures { λ r. ⌜ r ≡ fixupOf format base n ⌝ }
+    ensures { λ r. ⌜ fixupTold r ≡ fixingOf format base n ⌝ }
 {
     if is_narrow(format) {
         return narrow(base, n);
@@ -53,7 +53,7 @@ pub(crate) fn meaning(format: u16, base: u64, n: u64) -> Fixup
     wide(base, n)
 }
 
-// How far behind the pointer n the next one is.
+// How many bytes after the pointer n the next one is; 0 ends the chain.
 pub(crate) fn next(format: u16, n: u64) -> u64
     ensures { λ r. ⌜ r ≡ nextOf format n ⌝ }
 {
@@ -64,7 +64,7 @@ pub(crate) fn next(format: u16, n: u64) -> u64
 }
 
 fn narrow(base: u64, n: u64) -> Fixup
-    ensures { λ r. ⌜ r ≡ narrowFixup base n ⌝ }
+    ensures { λ r. ⌜ fixupTold r ≡ narrowFixing base n ⌝ }
 {
     if n / 0x8000_0000 % 2 == 1 {
         return Fixup::Bind(Bind {
@@ -78,7 +78,7 @@ fn narrow(base: u64, n: u64) -> Fixup
 }
 
 fn wide(base: u64, n: u64) -> Fixup
-    ensures { λ r. ⌜ r ≡ wideFixup base n ⌝ }
+    ensures { λ r. ⌜ fixupTold r ≡ wideFixing base n ⌝ }
 {
     if n / 0x8000_0000_0000_0000 % 2 == 1 {
         return Fixup::Bind(Bind {

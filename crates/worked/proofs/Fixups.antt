@@ -1,10 +1,10 @@
 -- The small chained fixups say what they are to say. Assumes nothing.
 use mathlib.Core.Path.{_≡_, refl}
 use mathlib.Core.List.{map}
-use Rattle.chains.specs.FixupChains.{headerAt, thenHeader, recordAt}
+use Rattle.chains.specs.FixupChains.{headerAt, thenHeader, thenStarts, recordAt}
 use Rattle.chains.specs.Listing.{segments}
 use Rattle.chains.specs.Listing as chained
-use Rattle.imports.specs.ChainedImports.{plainAt, addendAt, addend64At, thenRecord, importAt}
+use Rattle.imports.specs.ChainedImports.{thenImports, plainAt, addendAt, addend64At, thenRecord, importAt}
 use Rattle.imports.specs.ChainedImports as import
 use Rattle.imports.specs.Listing.{before, imports}
 use Rattle.imports.specs.Listing as imported
@@ -13,19 +13,19 @@ use Rattle.numbers.specs.LittleEndian.{littleEndian, fieldAt}
 use Rattle.numbers.specs.Runs.{runTo}
 use Rattle.numbers.specs.Strings.{stringAt}
 use Rattle.numbers.specs.Then.{thenNumber, thenText}
-use Rattle.pages.specs.ChainedPointers.{startAt, wideFixup, narrowFixup, fixupOf, nextOf}
+use Rattle.pages.specs.ChainedPointers.{startAt, wideFixing, narrowFixing, fixingOf, nextOf}
 use Rattle.pages.specs.Listing.{chainIn, chain, chains, page, pages, listing}
 use Rattle.runs.specs.Runs.{_then_}
 use Rattle.worked.specs.Fixups.{Sample, recordOf, samples, segmentBytes, segmentsSay, importBytes, importsSay}
 
 fixups-list : map (λ (x : Sample). listing (x .starts) (x .bytes) (recordOf x) (x .base)) samples ≡ map (λ (x : Sample). x .says) samples
-unfolding fromDigits littleEndian fieldAt thenNumber startAt wideFixup narrowFixup fixupOf nextOf chainIn chain chains page pages listing _then_
+unfolding fromDigits littleEndian fieldAt thenNumber startAt wideFixing narrowFixing fixingOf nextOf chainIn chain chains page pages listing _then_
 fixups-list = refl
 
 segments-list : chained.listing segmentBytes ≡ segmentsSay
-unfolding fromDigits littleEndian fieldAt thenNumber headerAt thenHeader recordAt segments chained.listing
+unfolding fromDigits littleEndian fieldAt thenNumber headerAt thenHeader thenStarts recordAt segments chained.listing
 segments-list = refl
 
 imports-list : imported.listing importBytes ≡ importsSay
-unfolding fromDigits littleEndian fieldAt thenNumber runTo stringAt thenText headerAt thenHeader plainAt addendAt addend64At import.recordAt thenRecord importAt before imports imported.listing
+unfolding fromDigits littleEndian fieldAt thenNumber runTo stringAt thenText headerAt thenHeader thenImports plainAt addendAt addend64At import.recordAt thenRecord importAt before imports imported.listing
 imports-list = refl

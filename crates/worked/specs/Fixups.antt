@@ -6,9 +6,7 @@ use lib.IntN.{ℤ, pos, negℤ}
 use Rattle.chains.specs.Listing.{Entry, segment, refusal}
 use Rattle.chains.specs.declared.Segment.{Segment}
 use Rattle.imports.specs.declared.Import.{Import}
-use Rattle.pages.specs.ChainedPointers.{rebase, bind}
-use Rattle.pages.specs.declared.Patch.{Patch}
-use Rattle.pages.specs.declared.pointer.Fixup.{Fixup}
+use Rattle.pages.specs.ChainedPointers.{rebase, bind, Fixed, fixed}
 use Rattle.runs.specs.Runs.{Run, stops, fails, gives}
 
 -- ---- the fixups of a segment
@@ -20,15 +18,12 @@ pub record Sample : Type 0 where
   pub count : ℕ
   pub format : ℕ
   pub base : ℕ
-  pub says : Run Patch
+  pub says : Run Fixed
 
 -- the record of a segment with one page
 abbrev pub recordOf : Sample → Segment
 recordOf x =
     record { index = 0; size = 0x1000; format = x .format; offset = 0; limit = 0; pages = 1; place = 0; count = x .count }
-
-abbrev at : (place : ℕ) → Fixup → Patch
-at place x = record { place = place; fixup = x }
 
 -- a list of two chains, at 0 and at 4; each has its second pointer eight bytes behind the first
 abbrev pub interleaved : Sample
@@ -40,7 +35,7 @@ interleaved =
       count = 3;
       format = 3;
       base = 0x10;
-      says = gives (at 0 (rebase 0)) (gives (at 8 (rebase 0x10)) (gives (at 4 (bind 1 3)) (gives (at 12 (bind 0xfffff 0x3f)) stops)));
+      says = gives (fixed 0 (rebase 0)) (gives (fixed 8 (rebase 0x10)) (gives (fixed 4 (bind 1 3)) (gives (fixed 12 (bind 0xfffff 0x3f)) stops)));
     }
 
 -- a list of chains that starts where the starts end
@@ -54,7 +49,7 @@ onePast = record { starts = 0x00 ∷ 0x00 ∷ []; bytes = 0x10 ∷ 0x00 ∷ 0x00
 -- in eight: high8 is 0x12, the target 0x10
 abbrev pub high : (format base target : ℕ) → Sample
 high format base target =
-    record { starts = 0x00 ∷ 0x00 ∷ []; bytes = 0x10 ∷ 0x00 ∷ 0x00 ∷ 0x00 ∷ 0x20 ∷ 0x01 ∷ 0x00 ∷ 0x00 ∷ []; count = 1; format = format; base = base; says = gives (at 0 (rebase target)) stops }
+    record { starts = 0x00 ∷ 0x00 ∷ []; bytes = 0x10 ∷ 0x00 ∷ 0x00 ∷ 0x00 ∷ 0x20 ∷ 0x01 ∷ 0x00 ∷ 0x00 ∷ []; count = 1; format = format; base = base; says = gives (fixed 0 (rebase target)) stops }
 
 -- the base is the target, the target is below it, and the base is none
 abbrev pub samples : List Sample

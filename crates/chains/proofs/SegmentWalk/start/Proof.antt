@@ -1,6 +1,7 @@
 -- `chains::SegmentWalk::start` meets its contract. Assumes nothing.
 use Rattle.chains.proofs.Headers.{headers}
 use Rattle.chains.specs.Call.{begin}
+use Rattle.chains.specs.FixupChains.{thenStarts}
 use Rattle.numbers.proofs.Picks.{picks}
 use Rattle.numbers.proofs.Rows.{field-inside, row-out, row-in}
 use Rattle.numbers.proofs.Then.{reads}
@@ -10,7 +11,7 @@ use Rattle.chains.proofs.SegmentWalk.start.Statement.{statement}
 use Rattle.chains.proofs.SegmentWalk.start.Tie as tie
 
 pub start-spec : {M : Type 1} → statement M
-unfolding begin
+unfolding begin thenStarts
 start-spec =
     tie.close
     (tie.spec

@@ -13,5 +13,4 @@ open-page-spec =
     (λ c. search (opens, needs))
     (λ c. search needs)
     (λ c κs. search needs)
-    (λ c κs. search needs)
     (λ c. search (opens, needs)))

@@ -11,6 +11,5 @@ out-of-range-spec =
     (λ c κs. search needs)
     (λ c. search (ranges, needs))
     (λ c κs. search needs)
-    (λ c. search needs)
     (λ c. search (ranges, needs))
     (λ c. search (ranges, needs)))

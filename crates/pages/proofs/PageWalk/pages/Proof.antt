@@ -6,10 +6,10 @@ use Rattle.pages.proofs.PageWalk.pages.Statement.{statement}
 use Rattle.pages.proofs.PageWalk.pages.Tie as tie
 
 abbrev Inv-loop : tie.InvT-loop
-Inv-loop self s d segment w₀ w = Paging s d self w
+Inv-loop s segment w₀ w = Paging s w₀ w
 
 abbrev μ-loop : tie.MeasureT-loop
-μ-loop self s d segment w₀ w = self .segment .pages - w .page
+μ-loop s segment w₀ w = w₀ .segment .pages - w .page
 
 pub pages-spec : {M : Type 1} → statement M
 pages-spec =
@@ -22,7 +22,6 @@ pages-spec =
     (λ c κs. search (paging, needs))
     (λ c. search (paging, needs))
     (λ c. search (paging, needs))
-    (λ c κs. search (paging, needs))
     (λ c. search (paging, needs))
     (λ c κs. search (paging, needs))
     (λ c κs. search (paging, needs))
