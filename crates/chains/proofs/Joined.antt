@@ -8,7 +8,7 @@ use borrow.Author.Tests.{le-ltb, ltb-false}
 use lib.Dec.{ltb, eqb}
 use lib.ListN.{length}
 use Rattle.chains.proofs.Headers.{both-headers}
-use Rattle.chains.specs.Call.{atStart, begin, atIndex, recorded, seek, call}
+use Rattle.chains.specs.Call.{begin, atIndex, recorded, seek, call}
 use Rattle.chains.specs.FixupChains.{headerAt, offsetAt, thenStarts, recordAt}
 use Rattle.chains.specs.Heard.{heard, hear}
 use Rattle.chains.specs.Listing.{Entry, entry, segments, listing}

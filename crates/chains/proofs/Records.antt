@@ -1,12 +1,11 @@
 -- The structures by the tests of their readers, and by their fields as they were read: for `search`. Assumes nothing.
 use Prim.Native.Nat.{ℕ, _+_, _-_, _*_, _/_, _≤_, _<_}
-use mathlib.Core.Path.{_≡_, refl, sym, ap, _∙_}
-use mathlib.Core.Bool.{true, false}
+use mathlib.Core.Path.{_≡_, sym, _∙_}
 use mathlib.Core.List.{List}
 use native.Mathlib.Omega.{arith}
 use borrow.Author.Tests.{le-ltb, lt-ltb, eq-eqb, ne-eqb}
 use lib.ListN.{length}
-use Rattle.chains.specs.FixupChains.{HeaderAt, header, noHeader, headerAt, recordSize, startsIn, recordAt}
+use Rattle.chains.specs.FixupChains.{header, noHeader, headerAt, recordSize, startsIn, recordAt}
 use Rattle.chains.specs.declared.record.Record.the-variants.{Found, Fault}
 use Rattle.numbers.specs.LittleEndian.{littleEndian}
 use Rattle.refusal.specs.Numbers.{numberOf}

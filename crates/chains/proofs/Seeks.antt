@@ -1,11 +1,11 @@
 -- The loop over segments: for `search`. Assumes nothing.
-use Prim.Native.Nat.{ℕ, zero, suc, _+_, _-_, _*_, _≤_, _<_}
-use mathlib.Core.Path.{_≡_, refl, sym, ap, _∙_}
+use Prim.Native.Nat.{ℕ, suc, _+_, _-_, _*_, _≤_, _<_}
+use mathlib.Core.Path.{_≡_, sym, ap, _∙_}
 use mathlib.Core.Bool.{Bool, true, false}
 use mathlib.Core.List.{List}
 use native.Mathlib.Omega.{arith}
-use borrow.Author.Tests.{ltb-true, ltb-false, lt-ltb, le-ltb, eq-eqb, ne-eqb}
-use lib.Dec.{ltb, eqb}
+use borrow.Author.Tests.{ltb-false, eq-eqb, ne-eqb}
+use lib.Dec.{ltb}
 use lib.ListN.{length}
 use Rattle.chains.specs.Call.{atIndex, recorded, seek, call}
 use Rattle.chains.specs.FixupChains.{offsetAt, recordAt}
@@ -13,7 +13,7 @@ use Rattle.chains.specs.declared.Segment.{Segment}
 use Rattle.chains.specs.declared.SegmentWalk.{SegmentWalk}
 use Rattle.refusal.specs.Numbers.{numberOf}
 use Rattle.refusal.specs.declared.Refusal.the-variants.{StateOutOfRange}
-use Rattle.runs.specs.Runs.{Answer, item, end, refused}
+use Rattle.runs.specs.Runs.{Answer, end, refused}
 
 -- the segments before an index have no record, and from there on the call is still to be answered
 pub record Seeking (s : List ℕ) (w : SegmentWalk) (index : ℕ) : Type 0 where

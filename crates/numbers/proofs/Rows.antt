@@ -1,6 +1,6 @@
 -- Fields, and rows of fields of one width, as a caller reads and tests them: for `search`. `r` is what a call answered. Assumes nothing.
-use Prim.Native.Nat.{ℕ, zero, _+_, _-_, _*_, _/_, _^_, _≤_, _<_}
-use mathlib.Core.Path.{_≡_, refl, ap, sym, _∙_, subst}
+use Prim.Native.Nat.{ℕ, _+_, _-_, _*_, _/_, _≤_, _<_}
+use mathlib.Core.Path.{_≡_, refl, sym, _∙_, subst}
 use mathlib.Core.Bool.{Bool, true, false, cond}
 use mathlib.Core.List.{List}
 use native.Mathlib.Decide.{decLt}
@@ -8,8 +8,8 @@ use native.Mathlib.Nat.{div-lt-iff-lt-mul, le-div-iff-mul-le}
 use native.Mathlib.Omega.{arith}
 use borrow.Author.Tests.{leb-true, leb-false, lt-leb, lt-ltb, le-ltb}
 use lib.Dec.{leb, ltb}
-use lib.ListN.{length, getD}
-use mir.Syntax.{w8, w16}
+use lib.ListN.{length}
+use mir.Syntax.{w16}
 use mir.Val.{Fits}
 use Rattle.numbers.specs.LittleEndian.{littleEndian, fieldAt}
 use Rattle.numbers.specs.declared.Number.{Number}

@@ -1,11 +1,11 @@
 -- What a state has still to list, and that each call takes the first off it. Assumes nothing.
-use Prim.Native.Nat.{ℕ, zero, suc, _+_, _-_, _*_, _^_, _≤_, _<_, min}
+use Prim.Native.Nat.{ℕ, zero, suc, _+_, _-_, _*_, _^_, _<_, min}
 use mathlib.Core.Path.{_≡_, refl, sym, ap, _∙_}
 use mathlib.Core.Bool.{Bool, true, false, cond, not}
 use mathlib.Core.List.{List}
 use native.Mathlib.Omega.{arith}
 use borrow.Author.Tests.{le-ltb}
-use lib.Dec.{ltb, eqb}
+use lib.Dec.{eqb}
 use lib.ListN.{length}
 use Rattle.chains.specs.declared.Segment.{Segment}
 use Rattle.numbers.specs.LittleEndian.{fieldAt}
@@ -23,7 +23,7 @@ use Rattle.pages.specs.declared.Sought.{Sought}
 use Rattle.pages.specs.declared.Sought.the-variants as sought
 use Rattle.refusal.specs.declared.Refusal.the-variants.{PointerOutside}
 use Rattle.runs.proofs.Walks.{shown, then-then}
-use Rattle.runs.specs.Runs.{Answer, item, end, refused, Run, stops, fails, gives, _then_}
+use Rattle.runs.specs.Runs.{Answer, item, Run, stops, gives, _then_}
 
 module _ (s d : List ℕ) (g : Segment) (base : ℕ) where
   -- the pages from one on

@@ -1,7 +1,7 @@
 -- Formats and pointers by the tests of their readers: for `search`. Assumes nothing.
-use Prim.Native.Nat.{ℕ, _+_, _-_, _*_, _/_, _%_, _^_, _≤_, _<_}
-use mathlib.Core.Path.{_≡_, refl, sym, ap, _∙_}
-use mathlib.Core.Bool.{Bool, true, false, cond, _||_, not}
+use Prim.Native.Nat.{ℕ, _-_, _*_, _/_, _%_}
+use mathlib.Core.Path.{_≡_, sym, _∙_}
+use mathlib.Core.Bool.{Bool, true, false}
 use mathlib.Core.List.{List}
 use native.Mathlib.Omega.{arith}
 use borrow.Author.Tests.{eq-eqb, ne-eqb, eqb-true}
@@ -9,7 +9,7 @@ use lib.Bits.{bitOr}
 use lib.Dec.{eqb}
 use Rattle.numbers.specs.LittleEndian.{fieldAt}
 use Rattle.numbers.specs.declared.Number.{Number}
-use Rattle.pages.specs.ChainedPointers.{isFormat, isNarrow, widthOf, baseOf, minus, Fixing, rebase, bind, wideFixing, narrowFixing, fixingOf, nextOf}
+use Rattle.pages.specs.ChainedPointers.{isFormat, isNarrow, widthOf, minus, Fixing, rebase, bind, wideFixing, narrowFixing, fixingOf, nextOf}
 
 -- ---- formats
 

@@ -2,7 +2,7 @@
 use Prim.Native.Nat.{ℕ, _-_, _^_}
 use mathlib.Core.Bool.{true}
 use mathlib.Core.List.{List, [], _∷_}
-use lib.IntN.{ℤ, pos, negℤ}
+use lib.IntN.{pos, negℤ}
 use Rattle.chains.specs.Listing.{Entry, segment, refusal}
 use Rattle.chains.specs.declared.Segment.{Segment}
 use Rattle.imports.specs.declared.Import.{Import}
