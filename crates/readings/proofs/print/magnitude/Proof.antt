@@ -1,6 +1,6 @@
 -- `readings::print::magnitude` meets its contract. Assumes nothing.
 use borrow.Author.Needs.{needs}
-use Rattle.readings.proofs.Negative.{flip-fits, flip-casts, flip-more, flip-is, casts}
+use Rattle.numbers.proofs.Negative.{flip-fits, flip-casts, flip-more, flip-is, casts}
 use Rattle.readings.proofs.print.magnitude.Statement.{statement}
 use Rattle.readings.proofs.print.magnitude.Tie as tie
 

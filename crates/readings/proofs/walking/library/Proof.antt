@@ -1,6 +1,6 @@
 -- `readings::walking::library` meets its contract. Assumes nothing.
 use borrow.Author.Needs.{needs}
-use Rattle.readings.proofs.Widths.{wide-fits}
+use Rattle.numbers.proofs.Widths.{wide-fits}
 use Rattle.readings.proofs.walking.library.Statement.{statement}
 use Rattle.readings.proofs.walking.library.Tie as tie
 

@@ -1,2 +1,0 @@
-pub mod Negative
-pub mod Widths
