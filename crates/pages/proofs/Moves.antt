@@ -5,7 +5,7 @@ use mathlib.Core.Bool.{Bool, true, false, _||_, not}
 use mathlib.Core.List.{List}
 use native.Mathlib.Nat.{min-eq-left, min-eq-right, mul-le-mul}
 use native.Mathlib.Omega.{arith}
-use borrow.Author.Tests.{eq-eqb, ne-eqb, ltb-false, not-false}
+use borrow.Author.Tests.{eq-eqb, ne-eqb, ltb-false}
 use lib.Dec.{ltb}
 use lib.ListN.{length}
 use mir.Syntax.{w16, w64}
@@ -30,7 +30,6 @@ module _ (w : PageWalk) (len : ℕ) {r : Bool} (e : r ≡ startsOut (w .segment)
 
 pub record InRange (s : List ℕ) (w : PageWalk) : Type 0 where
   pub inside : w .segment .place + 2 * w .segment .count ≤ length s
-  pub format : isFormat (w .segment .format) ≡ true
   pub near : w .origin ≤ farthest
 
 pub in-range : (s : List ℕ) (w : PageWalk) → outOfRange w (length s) ≡ false → InRange s w
@@ -39,7 +38,6 @@ in-range s w e =
     let b = neither (not (isFormat (w .segment .format))) (ltb farthest (w .origin)) (a .1) in
     record {
       inside = ltb-false (length s) (w .segment .place + 2 * w .segment .count) (a .0);
-      format = not-false (isFormat (w .segment .format)) (b .0);
       near = ltb-false farthest (w .origin) (b .1);
     }
 

@@ -72,7 +72,7 @@ onPage w = moved w (w .linked) (w .more) (w .page + 1) (w .chain) (w .page * w .
 abbrev pub toChain : (index : ℕ) → PageWalk → PageWalk
 toChain index w = moved w false true (w .page) index (w .origin) (w .offset)
 
--- a pointer is due at an offset, and behind its chain there may be more
+-- a pointer is due at an offset; `more` says whether its chain is followed by another of the page's list
 abbrev pub toPointer : (more : Bool) (offset : ℕ) → PageWalk → PageWalk
 toPointer more offset w = moved w true more (w .page) (w .chain) (w .origin) offset
 

@@ -14,27 +14,17 @@ use Rattle.numbers.specs.Parts.{partOf}
 use Rattle.refusal.specs.Numbers.{numberOf}
 use Rattle.refusal.specs.declared.Refusal.{Refusal}
 use Rattle.refusal.specs.declared.Refusal.the-variants.{TooManyOpenNodes}
+use Rattle.runs.proofs.Walks.{then-then}
+use Rattle.runs.specs.Runs.{Run, stops, fails, gives, _then_}
 use Rattle.trie.specs.Call.{put}
 use Rattle.trie.specs.Child.{childAt}
 use Rattle.trie.specs.Frames.{most, topDown, stillOpen}
-use Rattle.trie.specs.Listing.{visit, Listing, ends, refuses, lists, _then_, child, children, subtree}
+use Rattle.trie.specs.Listing.{Visit, visit, child, children, subtree}
 use Rattle.trie.specs.declared.TrieWalk.{TrieWalk}
 use Rattle.trie.specs.declared.child.Child.{Child}
 use Rattle.trie.specs.declared.child.Child.the-variants.{Found, Refused}
 use Rattle.trie.specs.declared.node.Edge.{Edge}
 use Rattle.trie.specs.declared.node.Node.{Node}
-
-then-assoc : (a b c : Listing) → (a then b) then c ≡ a then (b then c)
-unfolding _then_
-then-assoc ends b c = refl
-then-assoc (refuses number) b c = refl
-then-assoc (lists v a) b c = ap (lists v) (then-assoc a b c)
-
-pub then-ends : (a : Listing) → a then ends ≡ a
-unfolding _then_
-then-ends ends = refl
-then-ends (refuses number) = refl
-then-ends (lists v a) = ap (lists v) (then-ends a)
 
 -- ---- what is put into the buffer
 
@@ -123,8 +113,8 @@ nested-same v w m (suc d) q h =
 
 module _ (s : List ℕ) (room : ℕ) where
   -- the children that the first d open nodes have left, the topmost's first
-  unfoldable pub aheadAt : TrieWalk → (buffer : List ℕ) (d : ℕ) → Listing
-  aheadAt w b zero = ends
+  unfoldable pub aheadAt : TrieWalk → (buffer : List ℕ) (d : ℕ) → Run Visit
+  aheadAt w b zero = stops
   aheadAt w b (suc d) =
       children s room (subtree s room (most - suc d)) (topDown (w .offsets) (suc d)) (take (getD (w .lengths) d 0) b) (getD (w .left) d 0) (getD (w .places) d 0)
       then aheadAt w b d
@@ -161,7 +151,7 @@ module _ (s : List ℕ) (room : ℕ) where
     kept = getD (w .lengths) d 0
 
     -- what is behind the child
-    abbrev later : ℕ → Listing
+    abbrev later : ℕ → Run Visit
     later next = children s room (subtree s room (most - suc d)) (topDown (w .offsets) (suc d)) (take kept b) (getD (w .left) d 0 - 1) next
 
     child-ahead : (getD (w .left) d 0 ≡ 0 → ⊥) → {x : Child} → childAt s room (topDown (w .offsets) (suc d)) kept (getD (w .places) d 0) ≡ x
@@ -175,12 +165,12 @@ module _ (s : List ℕ) (room : ℕ) where
         ∙ ap (λ (y : Child). child s room (subtree s room (most - suc d)) later (topDown (w .offsets) (suc d)) (take kept b) y then aheadAt w b d) e
 
     pub refused-ahead : (getD (w .left) d 0 ≡ 0 → ⊥) → {x : Refusal} → childAt s room (topDown (w .offsets) (suc d)) kept (getD (w .places) d 0) ≡ Refused x
-        → aheadAt w b (suc d) ≡ refuses (numberOf x)
+        → aheadAt w b (suc d) ≡ fails (numberOf x)
     refused-ahead z e = child-ahead z e ∙ (unfold child _then_ in refl)
 
     module _ (x : Edge) (n : Node) where
       pub full-ahead : (getD (w .left) d 0 ≡ 0 → ⊥) → childAt s room (topDown (w .offsets) (suc d)) kept (getD (w .places) d 0) ≡ Found x n → most ≤ suc d
-          → aheadAt w b (suc d) ≡ refuses (numberOf TooManyOpenNodes)
+          → aheadAt w b (suc d) ≡ fails (numberOf TooManyOpenNodes)
       unfolding child subtree _then_
       full-ahead z e l =
           let k : most - suc d ≡ 0 = omega arith in
@@ -240,7 +230,7 @@ module _ (s : List ℕ) (room : ℕ) where
             ap (λ (k : ℕ). take (kept + k) buffer) (sym bytes-long) ∙ put-name (partOf s (x .place) (x .length)) b kept bytes-fit
 
         pub opened-ahead : (getD (w .left) d 0 ≡ 0 → ⊥) → childAt s room (topDown (w .offsets) (suc d)) kept (getD (w .places) d 0) ≡ Found x n
-            → aheadAt w b (suc d) ≡ lists (visit name (x .offset) (n .terminal)) (aheadAt after buffer (suc (suc d)))
+            → aheadAt w b (suc d) ≡ gives (visit name (x .offset) (n .terminal)) (aheadAt after buffer (suc (suc d)))
         unfolding child subtree _then_ aheadAt topDown
         opened-ahead z e =
             let k : most - suc d ≡ suc (most - suc (suc d)) = omega arith in
@@ -258,8 +248,8 @@ module _ (s : List ℕ) (room : ℕ) where
             let r = ahead-same after w b buffer kept d same-below (λ i m. put-before (partOf s (x .place) (x .length)) b kept bytes-fit i m) (h .1) in
             child-ahead z e
             ∙ ap (λ (k : ℕ). (subtree s room k (topDown (w .offsets) (suc d)) name (x .offset) n then later (x .next)) then aheadAt w b d) k
-            ∙ ap (lists v) (then-assoc below-it (later (x .next)) (aheadAt w b d))
-            ∙ (λ j. lists v
+            ∙ ap (gives v) (then-then below-it (later (x .next)) (aheadAt w b d))
+            ∙ (λ j. gives v
             (children s room (subtree s room (most - suc (suc d))) (sym f j ∷ t j) (m j) (sym c j) (sym p j)
             then (children s room (subtree s room (most - suc d)) (t j) (m₂ j) (sym c₂ j) (sym p₂ j) then sym r j)))
 

@@ -205,11 +205,11 @@ module _ (s : List ℕ) where
 
 -- ---- the answers that end a walk
 
-abbrev pub stops : Answer → Bool
-stops (export len x) = false
-stops more = false
-stops end = true
-stops (refused number) = true
+abbrev pub halts : Answer → Bool
+halts (export len x) = false
+halts more = false
+halts end = true
+halts (refused number) = true
 
 -- ---- what every visit keeps, every call keeps that goes on
 
@@ -220,7 +220,7 @@ IfReached P (reached len t v c) = P v c
 
 module _ (s : List ℕ) (P : TrieWalk → List ℕ → Type 0) (visit-keeps : (w : TrieWalk) (b : List ℕ) → P w b → IfReached P (next s w b))
     (close-keeps : (w : TrieWalk) (b : List ℕ) → P w b → w .begun ≡ true → P (closed w) b) where
-  pub course-keeps : {given : TrieWalk} {k n : ℕ} {w : TrieWalk} {b : List ℕ} {p : Reply × List ℕ} → Course s given k n w b p → P w b → stops (p .0 .answer) ≡ false → P (p .0 .walk) (p .1)
+  pub course-keeps : {given : TrieWalk} {k n : ℕ} {w : TrieWalk} {b : List ℕ} {p : Reply × List ℕ} → Course s given k n w b p → P w b → halts (p .0 .answer) ≡ false → P (p .0 .walk) (p .1)
   course-keeps (ends e z) h q = absurd (true≢false q)
   course-keeps (refuses e) h q = absurd (true≢false q)
   course-keeps waits h q = h

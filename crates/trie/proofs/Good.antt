@@ -9,7 +9,9 @@ use lib.Seq.{getD-set-same}
 use Rattle.refusal.specs.Numbers.{numberOf}
 use Rattle.refusal.specs.declared.Refusal.{Refusal}
 use Rattle.refusal.specs.declared.Refusal.the-variants.{FaultyNode, TooManyOpenNodes}
-use Rattle.trie.proofs.Ahead.{Nested, nested-still, nested-same, Sized, Same, aheadAt, ahead-same, ahead-still, then-ends, refused-ahead, full-ahead, after, name-put, opened-ahead, sized-after, nested-after}
+use Rattle.runs.proofs.Walks.{then-stops}
+use Rattle.runs.specs.Runs.{Run, stops, fails, gives, _then_}
+use Rattle.trie.proofs.Ahead.{Nested, nested-still, nested-same, Sized, Same, aheadAt, ahead-same, ahead-still, refused-ahead, full-ahead, after, name-put, opened-ahead, sized-after, nested-after}
 use Rattle.trie.proofs.Course.{Next, over, stopped, reached, next, next-by, IfReached}
 use Rattle.trie.proofs.Fits.{Sound, sound-closed, sound-next, read, within}
 use Rattle.trie.proofs.Visits.{has-child}
@@ -17,7 +19,7 @@ use Rattle.trie.specs.Call.{atStart, closed, onTop, opened, childOf, chi
 use Rattle.trie.specs.Child.{thenNode, childAt}
 use Rattle.trie.specs.ExportsTrie.{nodeAt}
 use Rattle.trie.specs.Frames.{most, topDown, stillOpen}
-use Rattle.trie.specs.Listing.{visit, Listing, ends, refuses, lists, _then_, children, subtree, listing}
+use Rattle.trie.specs.Listing.{Visit, visit, children, subtree, listing}
 use Rattle.trie.specs.declared.TrieWalk.{TrieWalk}
 use Rattle.trie.specs.declared.child.Child.{Child}
 use Rattle.trie.specs.declared.child.Child.the-variants.{Found, Refused}
@@ -33,17 +35,17 @@ pub record Good (s : List ℕ) (room : ℕ) (w : TrieWalk) (b : List ℕ) : Type
 
 module _ (s : List ℕ) (room : ℕ) where
   -- what a walk has still to list
-  abbrev pub ahead : TrieWalk → List ℕ → Listing
+  abbrev pub ahead : TrieWalk → List ℕ → Run Visit
   ahead w b = cond (w .begun) (aheadAt s room w b (w .depth)) (listing s room most)
 
   ahead-begun : (w : TrieWalk) (b : List ℕ) → w .begun ≡ true → ahead w b ≡ aheadAt s room w b (w .depth)
   ahead-begun w b y = ap (λ (c : Bool). cond c (aheadAt s room w b (w .depth)) (listing s room most)) y
 
   -- a listing by what comes next
-  abbrev pub Lists : Listing → Next → Type 0
-  Lists l over = l ≡ ends
-  Lists l (stopped number) = l ≡ refuses number
-  Lists l (reached len t v c) = (offset : ℕ) × (l ≡ lists (visit (take len c) offset t) (ahead v c))
+  abbrev pub Lists : Run Visit → Next → Type 0
+  Lists l over = l ≡ stops
+  Lists l (stopped number) = l ≡ fails number
+  Lists l (reached len t v c) = (offset : ℕ) × (l ≡ gives (visit (take len c) offset t) (ahead v c))
 
   module _ (w : TrieWalk) (b : List ℕ) (g : Good s room w b) where
     r : length b ≡ room
@@ -72,7 +74,7 @@ module _ (s : List ℕ) (room : ℕ) where
           ∙ sym (ahead-same s room (closed w) w b b (length b) (stillOpen (w .left) (w .depth)) (arrays (stillOpen (w .left) (w .depth))) (λ i l. refl)
           (nested-still w (length b) (w .depth) (g .nested y)))
 
-      over-lists : stillOpen (w .left) (w .depth) ≡ 0 → ahead w b ≡ ends
+      over-lists : stillOpen (w .left) (w .depth) ≡ 0 → ahead w b ≡ stops
       unfolding aheadAt
       over-lists z = closed-ahead ∙ ap (aheadAt s room (closed w) b) z
 
@@ -98,11 +100,11 @@ module _ (s : List ℕ) (room : ℕ) where
         read-as f =
             sym (λ i. childAt s (r i) (topDown (w .offsets) (q i)) (onTop (closed w) (w .lengths)) (onTop (closed w) (w .places))) ∙ f
 
-        bad-lists : (x : Refusal) → childOf s (length b) (closed w) ≡ Refused x → ahead w b ≡ refuses (numberOf x)
+        bad-lists : (x : Refusal) → childOf s (length b) (closed w) ≡ Refused x → ahead w b ≡ fails (numberOf x)
         bad-lists x f = here ∙ refused-ahead s room (closed w) b d nest some (read-as f)
 
         module _ (e : Edge) (n : Node) (f : childOf s (length b) (closed w) ≡ Found e n) where
-          full-lists : most ≤ stillOpen (w .left) (w .depth) → ahead w b ≡ refuses (numberOf TooManyOpenNodes)
+          full-lists : most ≤ stillOpen (w .left) (w .depth) → ahead w b ≡ fails (numberOf TooManyOpenNodes)
           full-lists l = here ∙ full-ahead s room (closed w) b d nest e n some (read-as f) (omega arith)
 
           module _ (l : stillOpen (w .left) (w .depth) < most) where
@@ -140,7 +142,7 @@ module _ (s : List ℕ) (room : ℕ) where
                   e .offset,
                   here
                       ∙ opened-ahead s room (closed w) b d nest e n (good-closed .sized) above fits inside some (read-as f)
-                      ∙ (λ i. lists (visit (sym (name-put s room (closed w) b d nest e n (good-closed .sized) above fits inside) i) (e .offset) (n .terminal))
+                      ∙ (λ i. gives (visit (sym (name-put s room (closed w) b d nest e n (good-closed .sized) above fits inside) i) (e .offset) (n .terminal))
                       (aheadAt s room (v-is i) c (p i))),
                 )
 
@@ -164,23 +166,23 @@ module _ (s : List ℕ) (room : ℕ) where
       at-bottom : (xs : List ℕ) (x : ℕ) → length xs ≡ 256 → getD (set xs 0 x) 0 0 ≡ x
       at-bottom xs x h = getD-set-same xs 0 x 0 (omega arith)
 
-      root-ahead : subtree s room most [] [] 0 n ≡ lists (visit (take 0 b) 0 (n .terminal)) (aheadAt s room rooted b (rooted .depth))
+      root-ahead : subtree s room most [] [] 0 n ≡ gives (visit (take 0 b) 0 (n .terminal)) (aheadAt s room rooted b (rooted .depth))
       unfolding subtree aheadAt topDown
       root-ahead =
           let p = at-bottom (w .places) (n .place) (g .sized .places) in
           let o = at-bottom (w .offsets) 0 (g .sized .offsets) in
           let c = at-bottom (w .left) (n .children) (g .sized .left) in
           let m = at-bottom (w .lengths) 0 (g .sized .lengths) in
-          ap (lists (visit [] 0 (n .terminal)))
-          (sym (then-ends (children s room (subtree s room (most - 1)) (0 ∷ []) [] (n .children) (n .place)))
-          ∙ (λ i. children s room (subtree s room (most - 1)) (sym o i ∷ []) (take (sym m i) b) (sym c i) (sym p i) then ends))
+          ap (gives (visit [] 0 (n .terminal)))
+          (sym (then-stops (children s room (subtree s room (most - 1)) (0 ∷ []) [] (n .children) (n .place)))
+          ∙ (λ i. children s room (subtree s room (most - 1)) (sym o i ∷ []) (take (sym m i) b) (sym c i) (sym p i) then stops))
 
       root-lists : w .begun ≡ false → nodeAt s 0 ≡ node.Found n → Lists (ahead w b) (reached 0 (n .terminal) rooted b)
       unfolding listing thenNode
       root-lists y e = (
         0,
         ap (λ (c : Bool). cond c (aheadAt s room w b (w .depth)) (listing s room most)) y
-            ∙ ap (λ (x : NodeRead). thenNode x (refuses (numberOf FaultyNode)) (λ n. subtree s room most [] [] 0 n)) e
+            ∙ ap (λ (x : NodeRead). thenNode x (fails (numberOf FaultyNode)) (λ n. subtree s room most [] [] 0 n)) e
             ∙ root-ahead,
       )
 
@@ -198,11 +200,11 @@ module _ (s : List ℕ) (room : ℕ) where
             nested = λ t. (omega (arith, m), tt);
           }
 
-    none-lists : w .begun ≡ false → nodeAt s 0 ≡ node.Fault → ahead w b ≡ refuses (numberOf FaultyNode)
+    none-lists : w .begun ≡ false → nodeAt s 0 ≡ node.Fault → ahead w b ≡ fails (numberOf FaultyNode)
     unfolding listing thenNode
     none-lists y e =
         ap (λ (c : Bool). cond c (aheadAt s room w b (w .depth)) (listing s room most)) y
-        ∙ ap (λ (x : NodeRead). thenNode x (refuses (numberOf FaultyNode)) (λ n. subtree s room most [] [] 0 n)) e
+        ∙ ap (λ (x : NodeRead). thenNode x (fails (numberOf FaultyNode)) (λ n. subtree s room most [] [] 0 n)) e
 
     -- ---- all cases
 

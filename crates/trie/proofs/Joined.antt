@@ -6,7 +6,8 @@ use mathlib.Core.List.{List, [], _∷_, _++_}
 use mathlib.Core.Option.{some}
 use native.Mathlib.Omega.{arith}
 use lib.ListN.{length, take}
-use Rattle.trie.proofs.Course.{Next, over, stopped, reached, next, IfReached, Course, call-course, stops, course-keeps}
+use Rattle.runs.specs.Runs.{Run, stops, fails, gives}
+use Rattle.trie.proofs.Course.{Next, over, stopped, reached, next, IfReached, Course, call-course, halts, course-keeps}
 use Rattle.trie.proofs.Course as course
 use Rattle.trie.proofs.Fits.{sound-ranged}
 use Rattle.trie.proofs.Good.{Good, ahead, Lists, good-closed, next-lists, good-next, good-start}
@@ -14,30 +15,30 @@ use Rattle.trie.proofs.Says.{Says, says-over, says-stopped, says-reache
 use Rattle.trie.specs.Call.{atStart, Answer, export, more, end, refused, Reply, call}
 use Rattle.trie.specs.Frames.{most}
 use Rattle.trie.specs.Joined.{Symbol, symbol, Ending, atEnd, atRefusal, Joined, joined, join, calls, withSymbol, exportsIn, visitsIn, endingOf, heard}
-use Rattle.trie.specs.Listing.{Visit, visit, Listing, ends, refuses, lists, listing}
+use Rattle.trie.specs.Listing.{Visit, visit, listing}
 use Rattle.trie.specs.declared.TrieWalk.{TrieWalk}
 
 module _ (s : List ℕ) (room : ℕ) where
   -- ---- the visits from a state on say what it has ahead
 
-  says-ahead : (l : Listing) (w : TrieWalk) (b : List ℕ) → Good s room w b → ahead s room w b ≡ l → Says s w b (heard l)
+  says-ahead : (l : Run Visit) (w : TrieWalk) (b : List ℕ) → Good s room w b → ahead s room w b ≡ l → Says s w b (heard l)
   unfolding exportsIn visitsIn endingOf
-  says-ahead ends w b g e = by (next s w b) refl (next-lists s room w b g)
+  says-ahead stops w b g e = by (next s w b) refl (next-lists s room w b g)
     where
-      by : (x : Next) → next s w b ≡ x → Lists s room (ahead s room w b) x → Says s w b (heard ends)
+      by : (x : Next) → next s w b ≡ x → Lists s room (ahead s room w b) x → Says s w b (heard stops)
       by over f h = says-over f
       by (stopped x) f h = let z : _≡_ {A = ℕ} 0 1 = cc in absurd (omega arith)
       by (reached len t v c) f h = let q = h .1 in let z : _≡_ {A = ℕ} 0 1 = cc in absurd (omega arith)
-  says-ahead (refuses y) w b g e = by (next s w b) refl (next-lists s room w b g)
+  says-ahead (fails y) w b g e = by (next s w b) refl (next-lists s room w b g)
     where
-      by : (x : Next) → next s w b ≡ x → Lists s room (ahead s room w b) x → Says s w b (heard (refuses y))
+      by : (x : Next) → next s w b ≡ x → Lists s room (ahead s room w b) x → Says s w b (heard (fails y))
       by over f h = let z : _≡_ {A = ℕ} 0 1 = cc in absurd (omega arith)
       by (stopped x) f h = let q : x ≡ y = cc in says-stopped (f ∙ ap stopped q)
       by (reached len t v c) f h = let q = h .1 in let z : _≡_ {A = ℕ} 0 1 = cc in absurd (omega arith)
-  says-ahead (lists u l) w b g e = by (λ v c. says-ahead l v c) (next s w b) refl (next-lists s room w b g) (good-next s room w b g)
+  says-ahead (gives u l) w b g e = by (λ v c. says-ahead l v c) (next s w b) refl (next-lists s room w b g) (good-next s room w b g)
     where
       by : ((v : TrieWalk) (c : List ℕ) → Good s room v c → ahead s room v c ≡ l → Says s v c (heard l))
-          → (x : Next) → next s w b ≡ x → Lists s room (ahead s room w b) x → IfReached (Good s room) (next s w b) → Says s w b (heard (lists u l))
+          → (x : Next) → next s w b ≡ x → Lists s room (ahead s room w b) x → IfReached (Good s room) (next s w b) → Says s w b (heard (gives u l))
       by ih over f h k = let z : _≡_ {A = ℕ} 0 1 = cc in absurd (omega arith)
       by ih (stopped x) f h k = let z : _≡_ {A = ℕ} 0 1 = cc in absurd (omega arith)
       by ih (reached len t v c) f h k =
@@ -56,7 +57,7 @@ module _ (s : List ℕ) (room : ℕ) where
     course-is : Course s w k 0 w b p
     course-is = call-course s k w b (sound-ranged s room w b (g .sound)) (g .sound .going)
 
-    good-after : stops (p .0 .answer) ≡ false → Good s room (p .0 .walk) (p .1)
+    good-after : halts (p .0 .answer) ≡ false → Good s room (p .0 .walk) (p .1)
     good-after z = course-keeps s (Good s room) (good-next s room) (good-closed s room) course-is g z
 
     -- with what is ahead after it, a call says what was ahead before
@@ -69,7 +70,7 @@ module _ (s : List ℕ) (room : ℕ) where
 
   -- ---- calls that do not come to an end say the first of it
 
-  starts-by : (a : Answer) (n : ℕ) (b : List ℕ) (j i : Joined) → (stops a ≡ false → (rest : List Symbol) × (j .exports ≡ i .exports ++ rest))
+  starts-by : (a : Answer) (n : ℕ) (b : List ℕ) (j i : Joined) → (halts a ≡ false → (rest : List Symbol) × (j .exports ≡ i .exports ++ rest))
       → (rest : List Symbol) × (join n b j a .exports ≡ join n b i a .exports ++ rest)
   starts-by (export len x) n b j i h = let r = h refl in (r .0, ap (λ (y : List Symbol). symbol (take len b) x ∷ y) (r .1))
   starts-by more n b j i h = h refl
@@ -88,7 +89,7 @@ module _ (s : List ℕ) (room : ℕ) where
   -- ---- enough calls come to an end
 
   course-moves : {given : TrieWalk} {k n : ℕ} {w : TrieWalk} {b : List ℕ} {q : Reply × List ℕ} → Course s given k n w b q
-      → (n ≤ q .0 .visits) × (0 < k → stops (q .0 .answer) ≡ false → n < q .0 .visits)
+      → (n ≤ q .0 .visits) × (0 < k → halts (q .0 .answer) ≡ false → n < q .0 .visits)
   course-moves (course.ends e z) = (omega arith, λ h q. absurd (true≢false q))
   course-moves (course.refuses e) = (omega arith, λ h q. absurd (true≢false q))
   course-moves course.waits = (omega arith, λ h q. absurd (omega arith))
@@ -103,13 +104,13 @@ nonzero (zero ∷ ks) = nonzero ks
 nonzero (suc k ∷ ks) = suc (nonzero ks)
 
 module _ (s : List ℕ) (room : ℕ) where
-  visits-by : (a : Answer) (n : ℕ) (b : List ℕ) (j : Joined) → stops a ≡ false → join n b j a .visits ≡ n + j .visits
+  visits-by : (a : Answer) (n : ℕ) (b : List ℕ) (j : Joined) → halts a ≡ false → join n b j a .visits ≡ n + j .visits
   visits-by (export len x) n b j z = refl
   visits-by more n b j z = refl
   visits-by end n b j z = absurd (true≢false z)
   visits-by (refused number) n b j z = absurd (true≢false z)
 
-  fewer : (k : ℕ) (ks : List ℕ) (w : TrieWalk) (b : List ℕ) → Good s room w b → visitsIn (ahead s room w b) < nonzero (k ∷ ks) → stops (call s k w b .0 .answer) ≡ false
+  fewer : (k : ℕ) (ks : List ℕ) (w : TrieWalk) (b : List ℕ) → Good s room w b → visitsIn (ahead s room w b) < nonzero (k ∷ ks) → halts (call s k w b .0 .answer) ≡ false
       → visitsIn (ahead s room (call s k w b .0 .walk) (call s k w b .1)) < nonzero ks
   unfolding nonzero
   fewer zero ks w b g h z =
@@ -122,7 +123,7 @@ module _ (s : List ℕ) (room : ℕ) where
       let m = course-moves s room (course-is s room (suc k) w b g) .1 (omega arith) z in
       omega (arith, e, m)
 
-  ends-by : (a : Answer) (n : ℕ) (b : List ℕ) (j : Joined) → (stops a ≡ false → (e : Ending) × (j .ending ≡ some e)) → (e : Ending) × (join n b j a .ending ≡ some e)
+  ends-by : (a : Answer) (n : ℕ) (b : List ℕ) (j : Joined) → (halts a ≡ false → (e : Ending) × (j .ending ≡ some e)) → (e : Ending) × (join n b j a .ending ≡ some e)
   ends-by (export len x) n b j h = h refl
   ends-by more n b j h = h refl
   ends-by end n b j h = (atEnd, refl)

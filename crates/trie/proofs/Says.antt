@@ -7,7 +7,7 @@ use mathlib.Core.List.{List, [], _∷_}
 use mathlib.Core.Option.{some}
 use native.Mathlib.Omega.{arith}
 use lib.ListN.{length, take}
-use Rattle.trie.proofs.Course.{over, stopped, reached, next, next-closed, Course, ends, refuses, waits, limits, exports, visits, InRange, call-course, stops, course-keeps}
+use Rattle.trie.proofs.Course.{over, stopped, reached, next, next-closed, Course, ends, refuses, waits, limits, exports, visits, InRange, call-course, halts, course-keeps}
 use Rattle.trie.proofs.Fits.{fit, Sound, sound-closed, sound-next, sound-ranged}
 use Rattle.trie.specs.Call.{Answer, export, more, end, refused, Reply, call}
 use Rattle.trie.specs.Joined.{Ending, atEnd, atRefusal, Joined, joined, join, calls, withSymbol}
@@ -53,7 +53,7 @@ module _ (s : List ℕ) where
     pub same : join (p .0 .visits) (p .1) j (p .0 .answer) ≡ joined (said .exports) (n + said .visits) (said .ending)
 
   pub course-joins : {given : TrieWalk} {k n : ℕ} {w : TrieWalk} {b : List ℕ} {p : Reply × List ℕ} (j : Joined) → Course s given k n w b p
-      → (stops (p .0 .answer) ≡ false → Says (p .0 .walk) (p .1) j) → Joins n w b p j
+      → (halts (p .0 .answer) ≡ false → Says (p .0 .walk) (p .1) j) → Joins n w b p j
   course-joins {n = n} j (ends e z) h = let q : n ≡ n + 0 = omega arith in record { said = _; says = says-over e; same = λ i. joined [] (q i) (some atEnd) }
   course-joins {n = n} j (refuses {x = x} e) h =
       let q : n ≡ n + 0 = omega arith in record { said = _; says = says-stopped e; same = λ i. joined [] (q i) (some (atRefusal x)) }
@@ -74,7 +74,7 @@ module _ (s : List ℕ) where
   -- ---- calls one after another
 
   -- where the joined calls have an ending, those after a call that goes on have it
-  ended-by : (n : ℕ) (b : List ℕ) (rest : Joined) (a : Answer) {e : Ending} → stops a ≡ false → join n b rest a .ending ≡ some e → rest .ending ≡ some e
+  ended-by : (n : ℕ) (b : List ℕ) (rest : Joined) (a : Answer) {e : Ending} → halts a ≡ false → join n b rest a .ending ≡ some e → rest .ending ≡ some e
   ended-by n b rest (export len x) z q = q
   ended-by n b rest more z q = q
   ended-by n b rest end z q = absurd (true≢false z)

@@ -5,7 +5,7 @@ use mathlib.Core.Path.{_≡_, refl, sym, ap, subst}
 use mathlib.Core.Bool.{Bool, true, false, true≢false}
 use mathlib.Core.List.{List}
 use lib.ListN.{length}
-use Rattle.trie.proofs.Course.{stops, Course, ends, refuses, waits, limits, exports, visits, InRange, ended-stays, call-course}
+use Rattle.trie.proofs.Course.{halts, Course, ends, refuses, waits, limits, exports, visits, InRange, ended-stays, call-course}
 use Rattle.trie.specs.Call.{marked, closed, Answer, export, more, end, refused, Reply, replied, call}
 use Rattle.trie.specs.Frames.{openNodes, topDown, any, outOfRange}
 use Rattle.trie.specs.declared.TrieWalk.{TrieWalk}
@@ -53,14 +53,14 @@ module _ (s : List ℕ) (limit : ℕ) (w : TrieWalk) (b : List ℕ) (range : InR
   pub refused-result : {number : ℕ} → call s limit w b .0 .answer ≡ refused number → call s limit w b .0 .walk ≡ marked w
   refused-result e = subst (λ (a : Answer). Left s (length b) w a (call s limit w b .0 .walk)) e call-leaves
 
-  over-by : (a : Answer) (v : TrieWalk) → Left s (length b) w a v → stops a ≡ true → Over s (length b) w v
+  over-by : (a : Answer) (v : TrieWalk) → Left s (length b) w a v → halts a ≡ true → Over s (length b) w v
   over-by (export len x) v h q = absurd (true≢false (sym q))
   over-by more v h q = absurd (true≢false (sym q))
   over-by end v h q = h
   over-by (refused number) v h q = subst (Over s (length b) w) (sym h) (record { ended = refl; range = range })
 
   -- after the end or a refusal every call says End, with any limit and any buffer of the same length
-  pub kept : stops (call s limit w b .0 .answer) ≡ true → (k : ℕ) (c : List ℕ) → length c ≡ length b
+  pub kept : halts (call s limit w b .0 .answer) ≡ true → (k : ℕ) (c : List ℕ) → length c ≡ length b
       → call s k (call s limit w b .0 .walk) c ≡ replied end (call s limit w b .0 .walk) 0 c
   kept q k c l =
       let v = call s limit w b .0 .walk in

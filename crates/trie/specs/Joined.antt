@@ -3,9 +3,10 @@ use Prim.Native.Nat.{ℕ, _+_}
 use mathlib.Core.List.{List, [], _∷_}
 use mathlib.Core.Option.{Option, none, some}
 use lib.ListN.{take}
+use Rattle.runs.specs.Runs.{Run, stops, fails, gives}
 use Rattle.trie.specs.Call.{Answer, export, more, end, refused, call}
 use Rattle.trie.specs.Exported.{Exported, exportTold}
-use Rattle.trie.specs.Listing.{Listing, ends, refuses, lists}
+use Rattle.trie.specs.Listing.{Visit}
 use Rattle.trie.specs.declared.TrieWalk.{TrieWalk}
 use Rattle.trie.specs.declared.node.Terminal.{Terminal}
 use Rattle.trie.specs.declared.node.Terminal.the-variants as terminal
@@ -52,20 +53,20 @@ abbrev pub withSymbol : List ℕ → Terminal → List Symbol → List Symbol
 withSymbol name terminal.NoExport symbols = symbols
 withSymbol name (terminal.Export x) symbols = symbol name (exportTold x) ∷ symbols
 
-unfoldable pub exportsIn : Listing → List Symbol
-exportsIn ends = []
-exportsIn (refuses number) = []
-exportsIn (lists v l) = withSymbol (v .name) (v .terminal) (exportsIn l)
+unfoldable pub exportsIn : Run Visit → List Symbol
+exportsIn stops = []
+exportsIn (fails number) = []
+exportsIn (gives v l) = withSymbol (v .name) (v .terminal) (exportsIn l)
 
-unfoldable pub visitsIn : Listing → ℕ
-visitsIn ends = 0
-visitsIn (refuses number) = 0
-visitsIn (lists v l) = 1 + visitsIn l
+unfoldable pub visitsIn : Run Visit → ℕ
+visitsIn stops = 0
+visitsIn (fails number) = 0
+visitsIn (gives v l) = 1 + visitsIn l
 
-unfoldable pub endingOf : Listing → Ending
-endingOf ends = atEnd
-endingOf (refuses number) = atRefusal number
-endingOf (lists v l) = endingOf l
+unfoldable pub endingOf : Run Visit → Ending
+endingOf stops = atEnd
+endingOf (fails number) = atRefusal number
+endingOf (gives v l) = endingOf l
 
-abbrev pub heard : Listing → Joined
+abbrev pub heard : Run Visit → Joined
 heard l = joined (exportsIn l) (visitsIn l) (some (endingOf l))

@@ -8,12 +8,13 @@ use Rattle.numbers.specs.Parts.{partOf}
 use Rattle.numbers.specs.Runs.{runTo}
 use Rattle.numbers.specs.Strings.{stringAt}
 use Rattle.numbers.specs.Then.{thenNumber, thenText}
+use Rattle.runs.specs.Runs.{_then_}
 use Rattle.trie.specs.Call.{atStart, put, visited, visitChild, onward, visitRoot, goOn, call}
 use Rattle.trie.specs.Child.{thenEdge, thenNode, childAt}
 use Rattle.trie.specs.ExportsTrie.{regularAt, stubAt, reexportAt, exportAt, thenExport, countedAt, nodeAt, edgeAt}
 use Rattle.trie.specs.Frames.{most, topDown, any, outOfRange, stillOpen}
 use Rattle.trie.specs.Joined.{calls, exportsIn, visitsIn, endingOf, heard}
-use Rattle.trie.specs.Listing.{_then_, child, children, subtree, listing}
+use Rattle.trie.specs.Listing.{child, children, subtree, listing}
 use Rattle.worked.specs.Tries.{Sample, row, samples, rows}
 
 -- each lists it
