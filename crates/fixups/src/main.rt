@@ -1,5 +1,5 @@
-// Walks the segments, the fixups and the imports of sample chained fixups, and prints what each call
-// answers and the state that it hands back.
+// Walks the segments, the fixups and the imports of sample chained fixups, and prints the state that each
+// call is given and what it answers; the state that it hands back stands in the next line.
 mod patches;
 mod print;
 mod segments;

@@ -1,11 +1,12 @@
 -- The range of a state, and a call by its tests: for `search`. Assumes nothing.
 use Prim.Native.Nat.{ℕ, suc, _-_, _≤_, _<_}
-use mathlib.Core.Path.{_≡_, refl, sym, ap, _∙_}
-use mathlib.Core.Bool.{Bool, true, false, _||_}
+use mathlib.Core.Path.{_≡_, sym, ap, _∙_}
+use mathlib.Core.Bool.{Bool, true, false}
 use mathlib.Core.List.{List}
 use native.Mathlib.Omega.{arith}
 use borrow.Author.Tests.{lt-ltb, le-ltb, ltb-false}
 use lib.Dec.{ltb}
+use Rattle.numbers.proofs.Picks.{neither}
 use Rattle.imports.specs.Call.{marked, passed, next, imported, outOfRange}
 use Rattle.imports.specs.ChainedImports.{importAt}
 use Rattle.imports.specs.declared.Import.{Import}
@@ -30,13 +31,10 @@ module _ (place symbols len : ℕ) where
   pub place-kept : place ≤ len → ltb len symbols ≡ outOfRange place symbols len
   place-kept h = rw (le-ltb len place h)
 
-  both : (t u : Bool) → ltb len place ≡ t → ltb len symbols ≡ u → (t || u) ≡ false → InRange place symbols len
-  both false false e f h = record { place-in = ltb-false len place e; symbols-in = ltb-false len symbols f }
-  both false true e f h = let n : _≡_ {A = ℕ} 0 1 = cc in absurd (omega arith)
-  both true u e f h = let n : _≡_ {A = ℕ} 0 1 = cc in absurd (omega arith)
-
   pub in-range : outOfRange place symbols len ≡ false → InRange place symbols len
-  in-range = both (ltb len place) (ltb len symbols) refl refl
+  in-range e =
+      let n = neither (ltb len place) (ltb len symbols) e in
+      record { place-in = ltb-false len place (n .0); symbols-in = ltb-false len symbols (n .1) }
 
   pub none-out : InRange place symbols len → outOfRange place symbols len ≡ false
   none-out i = rw (le-ltb len place (i .place-in), le-ltb len symbols (i .symbols-in))

@@ -17,7 +17,7 @@ use Rattle.imports.specs.declared.record.Record.{Record}
 use Rattle.imports.specs.declared.record.RecordRead.{RecordRead}
 use Rattle.imports.specs.declared.record.RecordRead.the-variants.{Found, Refused}
 use Rattle.numbers.proofs.Picks.{both-picks}
-use Rattle.numbers.proofs.Laws.{field-read}
+use Rattle.numbers.proofs.Rows.{field-less}
 use Rattle.numbers.proofs.Runs.{none-passed}
 use Rattle.numbers.proofs.little_endian.Fields.{Bytes}
 use Rattle.numbers.proofs.strings.Nuls.{no-string}
@@ -75,7 +75,7 @@ module _ (n next : ℕ) {r : Record} {a b : ℤ} where
 
 -- the fields of four bytes are below 2^32
 pub field-most : (s : List ℕ) (at : ℕ) {r : Number} {v next : ℕ} → r ≡ fieldAt 4 s at → r ≡ Value v next → Bytes s → v ≤ 0xffff_ffff
-field-most s at e f h = let b = field-read 4 (omega arith) s at e f .below h in omega (arith, b)
+field-most s at e f h = omega (arith, field-less 4 s at e f h)
 
 -- the other formats than the one that there is
 pub other-format : {format is : ℕ} (k : ℕ) → format ≡ is → eqb is k ≡ false → eqb format k ≡ false

@@ -1,12 +1,10 @@
 -- The laws that callers cite: what is known of whatever was read. They are about the definitions alone. Assumes nothing.
 use Prim.Native.Nat.{ℕ, _+_, _-_, _^_, _≤_, _<_}
 use mathlib.Core.Path.{_≡_, refl, ap, sym, _∙_, subst}
-use mathlib.Core.Bool.{Bool, true, false, cond}
 use mathlib.Core.List.{List}
 use native.Mathlib.Decide.{decLt, ℕ-discrete}
 use native.Mathlib.Omega.{arith}
-use borrow.Author.Tests.{leb-true, le-leb}
-use lib.Dec.{leb}
+use borrow.Author.Tests.{le-leb}
 use lib.IntN.{ℤ}
 use lib.ListN.{length, drop, length-drop}
 use lib.Seq.{length-take-le}
@@ -14,7 +12,6 @@ use mir.Syntax.{w64}
 use mir.Val.{SFits}
 use Rattle.numbers.specs.Gathered.{gatheredAt}
 use Rattle.numbers.specs.Leb128.{ulebAt, slebAt}
-use Rattle.numbers.specs.LittleEndian.{littleEndian, fieldAt}
 use Rattle.numbers.specs.Parts.{partOf}
 use Rattle.numbers.specs.Runs.{Run, run, unended, runTo}
 use Rattle.numbers.specs.Strings.{isNul, stringOf, stringAt}
@@ -30,7 +27,6 @@ use Rattle.numbers.proofs.Runs.{is-run, length-snoc}
 use Rattle.numbers.proofs.leb128.Views.{Seen, seen, few-sum}
 use Rattle.numbers.proofs.leb128.Uleb.{few-uleb, ten-uleb, ten-fits, ten-large, cut-uleb}
 use Rattle.numbers.proofs.leb128.Sleb.{few-plus, few-minus, plus-below, minus-small, ten-low, ten-plus, ten-minus, ten-fault, cut-sleb}
-use Rattle.numbers.proofs.little_endian.Fields.{Bytes, field-below}
 
 -- what is read at a place ends behind it, and within the bytes
 pub record Within (s : List ℕ) (at next : ℕ) : Type 0 where
@@ -136,31 +132,6 @@ module _ (s : List ℕ) (at : ℕ) where
   pub string-read : {r : Text} {start len next : ℕ} → r ≡ stringAt s at → r ≡ string.Found start len next → StringRead s at start len next
   unfolding stringAt
   string-read e f = subst (IfString s at) (sym e ∙ f) (string-of (runTo isNul (drop at s)) refl)
-
--- ---- fields of n bytes: a value is below 256^n
-
-pub record FieldRead (n : ℕ) (s : List ℕ) (at value next : ℕ) : Type 0 where
-  pub within : Within s at next
-  pub ends : next ≡ at + n
-  pub below : Bytes s → value < 256 ^ n
-
-abbrev IfField : ℕ → List ℕ → ℕ → Number → Type 0
-IfField n s at (number.Value v next) = FieldRead n s at v next
-IfField n s at number.Fault = Unit {0}
-
-module _ (n : ℕ) (some : 1 ≤ n) (s : List ℕ) (at : ℕ) where
-  field-of : (t : Bool) → leb (at + n) (length s) ≡ t → IfField n s at (cond t (number.Value (littleEndian n s at) (at + n)) number.Fault)
-  field-of true e =
-      record {
-        within = record { beyond = omega arith; inside = leb-true (at + n) (length s) e };
-        ends = refl;
-        below = field-below s n at;
-      }
-  field-of false e = tt
-
-  pub field-read : {r : Number} {v next : ℕ} → r ≡ fieldAt n s at → r ≡ number.Value v next → FieldRead n s at v next
-  unfolding fieldAt
-  field-read e f = subst (IfField n s at) (sym e ∙ f) (field-of (leb (at + n) (length s)) refl)
 
 -- ---- parts
 

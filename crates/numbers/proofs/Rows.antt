@@ -1,5 +1,5 @@
 -- Fields, and rows of fields of one width, as a caller reads and tests them: for `search`. `r` is what a call answered. Assumes nothing.
-use Prim.Native.Nat.{ℕ, _+_, _-_, _*_, _/_, _≤_, _<_}
+use Prim.Native.Nat.{ℕ, _+_, _-_, _*_, _/_, _^_, _≤_, _<_}
 use mathlib.Core.Path.{_≡_, refl, sym, _∙_, subst}
 use mathlib.Core.Bool.{Bool, true, false, cond}
 use mathlib.Core.List.{List}
@@ -45,6 +45,9 @@ module _ (n : ℕ) (s : List ℕ) (at : ℕ) where
 
     pub field-value : v ≡ littleEndian n s at
     field-value = field e f .is
+
+    pub field-less : Bytes s → v < 256 ^ n
+    field-less h = rw field-value (field-below s n at h)
 
   -- what fits is no fault
   pub field-there : {r : Number} → r ≡ fieldAt n s at → r ≡ Fault → at + n ≤ length s → {v : ℕ} → v ≡ littleEndian n s at

@@ -1,9 +1,10 @@
 -- The search for the next pointer, with its loop over pages, and a call by what is found: for `search`. Assumes nothing.
-use Prim.Native.Nat.{ℕ, suc, _+_, _-_, _*_, _/_, _%_, _≤_, _<_}
+use Prim.Native.Nat.{ℕ, suc, _+_, _-_, _*_, _%_, _≤_, _<_}
 use mathlib.Core.Path.{_≡_, refl, sym, ap, ap₂, _∙_}
 use mathlib.Core.Bool.{Bool, true, false, cond, not}
 use mathlib.Core.List.{List}
 use native.Mathlib.Decide.{decLt}
+use native.Mathlib.Nat.{div-one}
 use native.Mathlib.Omega.{arith}
 use borrow.Author.Tests.{le-leb, lt-leb, lt-ltb, le-ltb, eq-eqb, ne-eqb, ltb-true}
 use lib.Dec.{ltb}
@@ -54,7 +55,7 @@ module _ (s : List ℕ) (w : PageWalk) {r : Number} (e : r ≡ startAt s (w .seg
   pub chain-at : {start next : ℕ} → r ≡ Value start next → {v u : PageWalk} → v ≡ toChain (w .chain + 1) w →
       u ≡ toPointer (ltb start 0x8000) (w .origin + start % 0x8000) v → sought.At u ≡ chain s w
   unfolding chain thenNumber
-  chain-at {start} f i j = let z : start / 1 ≡ start = omega arith in rw (sym e ∙ f, j, i, more-is start, z)
+  chain-at {start} f i j = rw (sym e ∙ f, j, i, more-is start, div-one start)
 
 pub ruleset chain-laws = (chain-fits, chain-out, chain-at)
 
@@ -63,7 +64,7 @@ pub ruleset chain-laws = (chain-fits, chain-out, chain-at)
 module _ (s : List ℕ) (w : PageWalk) (start : ℕ) {u : PageWalk} where
   pub open-chain : 0x8000 ≤ start → u ≡ toChain (start % 0x8000) w → {y : Sought} → y ≡ chain s u → y ≡ opened s w start
   unfolding opened
-  open-chain k j q = let z : start / 1 ≡ start = omega arith in q ∙ rw (j, le-leb 0x8000 start k, z)
+  open-chain k j q = q ∙ rw (j, le-leb 0x8000 start k, div-one start)
 
   pub open-pointer : start < 0x8000 → u ≡ toPointer false (w .origin + start) w → sought.At u ≡ opened s w start
   unfolding opened

@@ -3,7 +3,7 @@ use Prim.Native.Nat.{ℕ, _-_, _*_, _/_, _%_}
 use mathlib.Core.Path.{_≡_, sym, _∙_}
 use mathlib.Core.Bool.{Bool, true, false}
 use mathlib.Core.List.{List}
-use native.Mathlib.Omega.{arith}
+use native.Mathlib.Nat.{div-one}
 use borrow.Author.Tests.{eq-eqb, ne-eqb, eqb-true}
 use lib.Bits.{bitOr}
 use lib.Dec.{eqb}
@@ -30,20 +30,20 @@ pub ruleset formats = (format-2, format-3, format-6)
 module _ (base n : ℕ) where
   pub narrow-bind : n / 0x80000000 % 2 ≡ 1 → bind (n % 0x100000) (n / 0x100000 % 0x40) ≡ narrowFixing base n
   unfolding narrowFixing
-  narrow-bind h = let z : n / 1 ≡ n = omega arith in rw (eq-eqb (n / 0x80000000 % 2) 1 h, z)
+  narrow-bind h = rw (eq-eqb (n / 0x80000000 % 2) 1 h, div-one n)
 
   pub narrow-rebase : (n / 0x80000000 % 2 ≡ 1 → ⊥) → {t : ℕ} → t ≡ minus (n % 0x4000000) base → rebase t ≡ narrowFixing base n
   unfolding narrowFixing
-  narrow-rebase h e = let z : n / 1 ≡ n = omega arith in rw (ne-eqb (n / 0x80000000 % 2) 1 h, z, e)
+  narrow-rebase h e = rw (ne-eqb (n / 0x80000000 % 2) 1 h, div-one n, e)
 
   pub wide-bind : n / 0x8000000000000000 % 2 ≡ 1 → bind (n % 0x1000000) (n / 0x1000000 % 0x100) ≡ wideFixing base n
   unfolding wideFixing
-  wide-bind h = let z : n / 1 ≡ n = omega arith in rw (eq-eqb (n / 0x8000000000000000 % 2) 1 h, z)
+  wide-bind h = rw (eq-eqb (n / 0x8000000000000000 % 2) 1 h, div-one n)
 
   pub wide-rebase : (n / 0x8000000000000000 % 2 ≡ 1 → ⊥) → {t : ℕ} → t ≡ minus (n % 0x1000000000) base →
       rebase (bitOr t (n / 0x1000000000 % 0x100 * 0x100000000000000)) ≡ wideFixing base n
   unfolding wideFixing
-  wide-rebase h e = let z : n / 1 ≡ n = omega arith in rw (ne-eqb (n / 0x8000000000000000 % 2) 1 h, z, e)
+  wide-rebase h e = rw (ne-eqb (n / 0x8000000000000000 % 2) 1 h, div-one n, e)
 
 pub ruleset says = (narrow-bind, narrow-rebase, wide-bind, wide-rebase)
 
