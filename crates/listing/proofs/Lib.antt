@@ -6,3 +6,4 @@ pub mod Kept
 pub mod Resumed
 pub mod Held
 pub mod Loops
+pub mod Starts

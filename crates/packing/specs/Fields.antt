@@ -1,0 +1,38 @@
+-- Fields of a record: each is a word, and holds a value of its type.
+use Prim.Native.Nat.{ℕ, _+_, _*_, _-_, _^_}
+use mathlib.Core.Bool.{Bool, true, cond, _&&_}
+use mathlib.Core.List.{List, [], _∷_}
+use lib.Dec.{eqb, leb}
+use lib.ListN.{length}
+use Rattle.packing.specs.Words.{wordAt}
+
+-- ---- the largest value of a type
+
+abbrev pub flag : ℕ
+flag = 1
+
+abbrev pub u8 : ℕ
+u8 = 2 ^ 8 - 1
+
+abbrev pub u16 : ℕ
+u16 = 2 ^ 16 - 1
+
+abbrev pub u64 : ℕ
+u64 = 2 ^ 64 - 1
+
+-- ---- a record has a word for each field, at most the largest value of the field's type
+
+unfoldable pub withinFrom : List ℕ → ℕ → (largest : List ℕ) → Bool
+withinFrom s i [] = true
+withinFrom s i (most ∷ rest) = leb (wordAt s i) most && withinFrom s (i + 1) rest
+
+unfoldable pub fits : List ℕ → (largest : List ℕ) → Bool
+fits s largest = eqb (length s) (8 * length largest) && withinFrom s 0 largest
+
+-- ---- flags
+
+abbrev pub isSet : ℕ → Bool
+isSet v = eqb v 1
+
+abbrev pub bit : Bool → ℕ
+bit b = cond b 1 0
