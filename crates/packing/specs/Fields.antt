@@ -1,8 +1,9 @@
 -- Fields of a record: each is a word, and holds a value of its type.
-use Prim.Native.Nat.{ℕ, _+_, _*_, _-_, _^_}
+use Prim.Native.Nat.{ℕ, suc, _+_, _*_, _-_, _^_}
 use mathlib.Core.Bool.{Bool, true, cond, _&&_}
 use mathlib.Core.List.{List, [], _∷_}
-use lib.Dec.{eqb, leb}
+use lib.Dec.{eqb, leb, ltb}
+use lib.IntN.{ℤ, pos, negsuc, _-ℤ_}
 use lib.ListN.{length}
 use Rattle.packing.specs.Words.{wordAt}
 
@@ -36,3 +37,12 @@ isSet v = eqb v 1
 
 abbrev pub bit : Bool → ℕ
 bit b = cond b 1 0
+
+-- ---- signed numbers, in two's complement of 64 bits
+
+abbrev pub unsignedOf : ℤ → ℕ
+unsignedOf (pos n) = n
+unsignedOf (negsuc n) = 2 ^ 64 - suc n  -- -1 - n
+
+abbrev pub signedOf : ℕ → ℤ
+signedOf v = cond (ltb v (2 ^ 63)) (pos v) (pos v -ℤ pos (2 ^ 64))

@@ -3,7 +3,7 @@ ghost use mathlib.Core.Path.{_≡_};
 ghost use Prim.Native.Nat.{_+_, _≤_};
 ghost use lib.ListN.{length};
 ghost use lib.Seq.{sets};
-ghost use Rattle.packing.specs.Fields.{bit, fits};
+ghost use Rattle.packing.specs.Fields.{bit, fits, signedOf, unsignedOf};
 ghost use Rattle.packing.specs.Words.{wordAt, wordBytes, written};
 use numbers::Number;
 use numbers::little_endian::read_u64;
@@ -89,4 +89,26 @@ pub fn bit(b: bool) -> u64
     ensures { λ r. ⌜ r ≡ bit b ⌝ }
 {
     if b { 1 } else { 0 }
+}
+
+// A signed number as a word.
+pub fn unsigned(z: i64) -> u64
+    ensures { λ r. ⌜ r ≡ unsignedOf z ⌝ }
+{
+    if z < 0 {
+        // z + 2^64, in steps that fit.
+        return u64::MAX - ((-1 - z) as u64);
+    }
+    z as u64
+}
+
+// A word as a signed number.
+pub fn signed(v: u64) -> i64
+    ensures { λ r. ⌜ r ≡ signedOf v ⌝ }
+{
+    if v < 0x8000_0000_0000_0000 {
+        return v as i64;
+    }
+    // v - 2^64, in steps that fit.
+    -1 - ((u64::MAX - v) as i64)
 }

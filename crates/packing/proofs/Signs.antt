@@ -1,0 +1,61 @@
+-- Two's complement, and the machine's signed numbers: for `search`. Assumes nothing.
+use Prim.Native.Nat.{ℕ, suc, _+_, _-_, _^_, _≤_, _<_}
+use mathlib.Core.Path.{_≡_, refl, sym, _∙_, subst}
+use mathlib.Core.Bool.{true, false}
+use native.Mathlib.Omega.{arith}
+use borrow.Author.Tests.{lt-ltb, le-ltb, ltb-true}
+use lib.IntN.{ℤ, pos, negsuc, natAbs, _-ℤ_}
+use lib.Signed.{ltZ}
+use mir.Syntax.{w64}
+use mir.Val.{SFits, toZ, ofZ}
+use mir.Facts.{toZ-ofZ}
+use Rattle.numbers.proofs.Negative.{flip-is}
+use Rattle.numbers.proofs.leb128.Signs.{plus-is, minus-fits, minus-back}
+use Rattle.numbers.proofs.leb128.Sleb.{take-away}
+use Rattle.packing.specs.Fields.{signedOf, unsignedOf}
+
+-- ---- as a word
+
+-- of a negative number z this is -1 - z
+abbrev flipped : ℤ → ℕ
+flipped z = natAbs (toZ w64 (ofZ w64 (negsuc 0 -ℤ toZ w64 (ofZ w64 z))))
+
+record Flip (z : ℤ) : Type 0 where
+  less : flipped z ≤ 2 ^ 64 - 1
+  is : (2 ^ 64 - 1) - flipped z ≡ unsignedOf z
+
+module _ (z : ℤ) (f : SFits w64 z) (t : ltZ (toZ w64 (ofZ w64 z)) (pos 0) ≡ true) where
+  flip : Flip z
+  flip = by z f (flip-is z f t) (subst (λ (y : ℤ). ltZ y (pos 0) ≡ true) (toZ-ofZ f) t)
+    where
+      by : (z : ℤ) → SFits w64 z → flipped z + 1 ≡ natAbs z → ltZ z (pos 0) ≡ true → Flip z
+      by (pos n) f e t = absurd (omega (arith, ltb-true n 0 t))
+      by (negsuc n) f e t = record { less = omega (arith, e, f .sfits); is = omega (arith, e) }
+
+  pub flipped-less : flipped z ≤ 2 ^ 64 - 1
+  flipped-less = flip .less
+
+  pub negative-word : (2 ^ 64 - 1) - flipped z ≡ unsignedOf z
+  negative-word = flip .is
+
+pub positive-word : (z : ℤ) → SFits w64 z → ltZ (toZ w64 (ofZ w64 z)) (pos 0) ≡ false → natAbs (toZ w64 (ofZ w64 z)) ≡ unsignedOf z
+positive-word z f t = rw (toZ-ofZ f) (is-word z (rw (← toZ-ofZ f) t))
+  where
+    is-word : (z : ℤ) → ltZ z (pos 0) ≡ false → natAbs z ≡ unsignedOf z
+    is-word (pos n) t = refl
+    is-word (negsuc n) t = let z : _≡_ {A = ℕ} 0 1 = cc in absurd (omega arith)
+
+-- ---- from a word
+
+module _ (v : ℕ) where
+  pub word-positive : v < 2 ^ 63 → toZ w64 v ≡ signedOf v
+  word-positive h = plus-is v h ∙ sym (rw (lt-ltb v (2 ^ 63) h))
+
+  module _ (h : 2 ^ 63 ≤ v) (i : v < 2 ^ 64) where
+    pub word-fits : SFits w64 (negsuc 0 -ℤ toZ w64 (2 ^ 64 - 1 - v))
+    word-fits = minus-fits (2 ^ 64 - 1 - v) (omega arith)
+
+    pub word-negative : toZ w64 (ofZ w64 (negsuc 0 -ℤ toZ w64 (2 ^ 64 - 1 - v))) ≡ signedOf v
+    word-negative =
+        minus-back (2 ^ 64 - 1 - v) (omega arith)
+        ∙ sym (rw (le-ltb v (2 ^ 63) h) (take-away v (2 ^ 64) (2 ^ 64 - 1) (omega arith) (omega arith)))
