@@ -1,0 +1,133 @@
+-- Sizes read one by one, and a preflight of them. Assumes nothing.
+use Prim.Native.Nat.{ℕ, zero, suc, _+_, _-_, _/_, _%_, _≤_, _<_}
+use mathlib.Core.Path.{_≡_, refl, sym, ap, _∙_, subst}
+use mathlib.Core.Bool.{Bool, true, false, cond, _&&_}
+use mathlib.Core.List.{List, [], _∷_, _++_}
+use native.Mathlib.Decide.{decLt}
+use native.Mathlib.Numerals.{add-one}
+use native.Mathlib.Omega.{arith}
+use borrow.Author.Tests.{lt-ltb, le-ltb, le-leb, lt-leb, eq-eqb, ne-eqb}
+use lib.Dec.{eqb}
+use lib.ListN.{length, take, set, length-set}
+use lib.Seq.{take-suc-set}
+use Rattle.cursor.specs.Cursor.{isPointerSize}
+use Rattle.listing.proofs.Starts.{no-size}
+use Rattle.listing.specs.Machine.{Machine}
+use Rattle.packing.specs.Boundary.{unfit}
+use Rattle.packing.specs.Words.{wordAt}
+use Rattle.packed_preflight.specs.Packed.{wordsFrom, sizesOf, verdictTold, flown, narrow, fewer}
+use Rattle.preflight.specs.Told.{told}
+use Rattle.preflight.specs.declared.Verdict as code
+use Rattle.preflight.specs.Verdict.{Verdict, fault, withSizes, preflight}
+use Rattle.refusal.specs.Numbers.{numberOf}
+use Rattle.refusal.specs.declared.Refusal.the-variants.{PointerSize, UnfitSizes}
+
+-- ---- read one by one
+
+words-more : (s : List ℕ) (i n : ℕ) → wordsFrom s i (suc n) ≡ wordsFrom s i n ++ (wordAt s (i + n) ∷ [])
+unfolding wordsFrom
+words-more s i zero = let z : i + 0 ≡ i = omega arith in rw z
+words-more s i (suc n) =
+    let z : i + 1 + n ≡ i + suc n = omega arith in
+    ap (λ (l : List ℕ). wordAt s i ∷ l) (words-more s (i + 1) n ∙ ap (λ (k : ℕ). wordsFrom s (i + 1) n ++ (wordAt s k ∷ [])) z)
+
+-- the first i of so many are read
+pub record Reading (s : List ℕ) (count : ℕ) (words : List ℕ) (i : ℕ) : Type 0 where
+  pub long : length words ≡ 17
+  pub few : count ≤ 17
+  pub upto : i ≤ count
+  pub read : take i words ≡ wordsFrom s 0 i
+
+fewer-least : (n : ℕ) {count : ℕ} → count ≡ fewer n → count ≤ 17
+fewer-least n e = rw e (elim (decLt n 17) [ yes h ↦ rw (lt-ltb n 17 h) (omega arith) | no h ↦ rw (le-ltb n 17 (omega arith)) (omega arith) ])
+
+module _ (s words : List ℕ) where
+  pub reads-none : (n : ℕ) {count : ℕ} → count ≡ fewer n → length words ≡ 17 → Reading s count words 0
+  unfolding wordsFrom
+  reads-none n e l = record { long = l; few = fewer-least n e; upto = omega arith; read = refl }
+
+  module _ {count i : ℕ} (r : Reading s count words i) where
+    pub reads-on : {x : ℕ} → i < count → x ≡ wordAt s i → Reading s count (set words i x) (i + 1)
+    reads-on {x} h e =
+        let z : 0 + i ≡ i = omega arith in
+        record {
+          long = length-set words i x ∙ r .long;
+          few = r .few;
+          upto = omega arith;
+          read =
+              ap (λ (k : ℕ). take k (set words i x)) (add-one i)
+              ∙ take-suc-set words i x (omega (arith, r .long, r .few))
+              ∙ (λ j. r .read j ++ (e j ∷ []))
+              ∙ ap (λ (k : ℕ). wordsFrom s 0 i ++ (wordAt s k ∷ [])) (sym z)
+              ∙ sym (words-more s 0 i)
+              ∙ ap (wordsFrom s 0) (sym (add-one i));
+        }
+
+    pub reads-fit : count ≤ length words
+    reads-fit = omega (arith, r .long, r .few)
+
+    pub reads-all : count ≤ i → take count words ≡ wordsFrom s 0 count
+    reads-all h = let z : i ≡ count = omega (arith, r .upto) in subst (λ (k : ℕ). take k words ≡ wordsFrom s 0 k) z (r .read)
+
+length-words : (s : List ℕ) (i n : ℕ) → length (wordsFrom s i n) ≡ n
+unfolding wordsFrom
+length-words s i zero = refl
+length-words s i (suc n) = ap suc (length-words s (i + 1) n)
+
+-- ---- a preflight
+
+module _ (M : Machine) (start : M .Reg) (size : ℕ) (s : List ℕ) where
+  narrowed : (zs : List ℕ) → preflight M start (narrow size) zs s ≡ preflight M start size zs s
+  unfolding preflight
+  narrowed zs =
+      elim (decLt 255 size) [
+        | yes h ↦ rw (lt-leb size 255 h, no-size h)
+        | no h ↦ rw (le-leb size 255 (omega arith))
+      ]
+
+  -- more than 16 are refused, whatever they are
+  too-many : (zs : List ℕ) → 16 < length zs → withSizes M start size zs s ≡ fault (numberOf UnfitSizes) 0 0
+  unfolding withSizes
+  too-many zs h = rw (lt-leb (length zs) 16 h)
+
+  enough : (sizes : List ℕ) (n : ℕ) → preflight M start size (wordsFrom sizes 0 (fewer n)) s ≡ preflight M start size (wordsFrom sizes 0 n) s
+  unfolding preflight
+  enough sizes n =
+      elim (decLt n 17) [
+        | yes h ↦ rw (lt-ltb n 17 h)
+        | no h ↦
+            rw (le-ltb n 17 (omega arith))
+            (ap (λ (v : Verdict). cond (isPointerSize size) v (fault (numberOf PointerSize) 0 0))
+            (too-many (wordsFrom sizes 0 17) (omega (arith, length-words sizes 0 17))
+            ∙ sym (too-many (wordsFrom sizes 0 n) (omega (arith, length-words sizes 0 n)))))
+      ]
+
+  -- what is known of a preflight that was called
+  pub flies : (sizes words : List ℕ) {n count : ℕ} {v : Verdict} → v ≡ preflight M start n (take (count - 0) words) s → n ≡ narrow size →
+      take count words ≡ wordsFrom sizes 0 count → count ≡ fewer (length sizes / 8) →
+      v ≡ preflight M start size (sizesOf sizes) s
+  flies sizes words {count = count} e f g h =
+      let z : count - 0 ≡ count = omega arith in
+      e
+      ∙ (λ j. preflight M start (f j) ((ap (λ (k : ℕ). take k words) z ∙ g ∙ ap (wordsFrom sizes 0) h) j) s)
+      ∙ narrowed (wordsFrom sizes 0 (fewer (length sizes / 8)))
+      ∙ enough sizes (length sizes / 8)
+
+-- ---- at the boundary
+
+module _ (sizes verdict : List ℕ) (flight : List ℕ → Verdict) where
+  pub told-long : (length verdict ≡ 16 → ⊥) → _≡_ {A = ℕ × List ℕ} (unfit, verdict) (flown sizes verdict flight)
+  unfolding flown
+  told-long h = rw (ne-eqb (length verdict) 16 h)
+
+  module _ (l : length verdict ≡ 16) where
+    pub broken-size : (length sizes % 8 ≡ 0 → ⊥) → _≡_ {A = ℕ × List ℕ} (unfit, verdict) (flown sizes verdict flight)
+    unfolding flown
+    broken-size h = rw (eq-eqb (length verdict) 16 l, ne-eqb (length sizes % 8) 0 h)
+
+    pub flown-as : {v : Verdict} {z : ℕ × List ℕ} → length sizes % 8 ≡ 0 → z ≡ verdictTold v → v ≡ flight (sizesOf sizes) → z ≡ flown sizes verdict flight
+    unfolding flown
+    flown-as h e f = rw (eq-eqb (length verdict) 16 l, eq-eqb (length sizes % 8) 0 h) (e ∙ ap verdictTold f)
+
+pub tells : {v q : code.Verdict} {y : ℕ × List ℕ} → v ≡ q → y ≡ verdictTold (told q) → y ≡ verdictTold (told v)
+tells e f = f ∙ ap (λ (x : code.Verdict). verdictTold (told x)) (sym e)
