@@ -1,6 +1,6 @@
 -- `packed_preflight::narrow` meets its contract. Assumes nothing.
+use Rattle.numbers.proofs.Picks.{picks}
 use borrow.Author.Needs.{needs}
-use borrow.Author.Tests.{le-leb, lt-leb}
 use Rattle.packed_preflight.proofs.narrow.Statement.{statement}
 use Rattle.packed_preflight.proofs.narrow.Tie as tie
 
@@ -9,5 +9,5 @@ narrow-spec =
     tie.close
     (tie.spec
     (λ c. search needs)
-    (λ c. rw (le-leb (c .before .args .size) 255 (search needs)))
-    (λ c. rw (lt-leb (c .before .args .size) 255 (search needs))))
+    (λ c. search (picks, needs))
+    (λ c. search (picks, needs)))
