@@ -1,0 +1,16 @@
+-- An item written: it has five words, whichever fixup it is. Assumes nothing.
+use Prim.Native.Nat.{ℕ, suc, _*_}
+use mathlib.Core.Path.{_≡_, refl, sym, ap, _∙_}
+use mathlib.Core.List.{List}
+use lib.ListN.{length}
+use Rattle.packed_pages.specs.Packed.{fixingWords, itemWords, items}
+use Rattle.packing.proofs.Boundary.{over}
+use Rattle.packing.specs.Words.{written}
+use Rattle.pages.specs.ChainedPointers.{Fixing, rebase, bind, Fixed}
+
+four : (f : Fixing) → length (fixingWords f) ≡ 4
+four (rebase target) = refl
+four (bind ordinal addend) = refl
+
+pub over-item : (s : List ℕ) {t : List ℕ} (vs : List ℕ) (x : Fixed) → t ≡ written vs s → vs ≡ itemWords x → length s ≡ items .long → t ≡ items .bytes x
+over-item s vs x e f l = over s vs (itemWords x) e f (l ∙ ap (λ (n : ℕ). 8 * suc n) (sym (four (x .fixing))))

@@ -1,0 +1,32 @@
+-- The record of a segment: what is known where it fits, and a start by it. Assumes nothing.
+use Prim.Native.Nat.{ℕ, _≤_, _<_}
+use mathlib.Core.Path.{_≡_, refl, ap, _∙_}
+use mathlib.Core.Bool.{true, false}
+use mathlib.Core.List.{List}
+use native.Mathlib.Omega.{arith}
+use lib.ListN.{length, getD}
+use Rattle.chains.specs.declared.Segment.{Segment}
+use Rattle.packed_pages.specs.Packed.{beginAt}
+use Rattle.packed_segments.specs.Packed.{segmentFields, segmentAt}
+use Rattle.packing.proofs.Fields.{half-fits}
+use Rattle.packing.specs.Boundary.{unfit}
+use Rattle.packing.specs.Fields.{u16, fits}
+use Rattle.packing.specs.Words.{wordAt}
+use Rattle.pages.specs.Call.{begin}
+use Rattle.pages.specs.declared.PageWalk.{PageWalk}
+use Rattle.runs.specs.Runs.{Begin, notBegun}
+
+-- a field of two bytes
+pub half-most : (largest s : List ℕ) (i : ℕ) → fits s largest ≡ true → i < length largest → getD largest i 0 ≡ u16 → wordAt s i ≤ u16
+half-most largest s i e h m = omega (arith, half-fits largest s {i = i} refl e h m .fits)
+
+-- ---- a start
+
+module _ (s segment : List ℕ) (base : ℕ) where
+  pub record-unfit : fits segment segmentFields ≡ false → notBegun unfit ≡ beginAt s segment base
+  unfolding beginAt
+  record-unfit e = rw e
+
+  pub record-fits : {g : Segment} {b : Begin PageWalk} → b ≡ begin s g base → g ≡ segmentAt segment → fits segment segmentFields ≡ true → b ≡ beginAt s segment base
+  unfolding beginAt
+  record-fits f q e = rw e (f ∙ ap (λ (g : Segment). begin s g base) q)

@@ -1,0 +1,16 @@
+-- `packed_pages::words` meets its contract. Assumes nothing.
+use borrow.Author.Needs.{needs}
+use Rattle.packed_pages.proofs.words.Statement.{statement}
+use Rattle.packed_pages.proofs.words.Tie as tie
+
+pub words-spec : {M : Type 1} → statement M
+words-spec =
+    tie.close
+    (tie.spec
+    (λ c. search needs)
+    (λ c. search needs)
+    (λ c. search needs)
+    (λ c κs. search needs)
+    (λ c κs. search needs)
+    (λ c κs. search needs)
+    (λ c. cc))
