@@ -63,6 +63,12 @@ module _ {W X : Type 0} (S : States W) (I : Items X) (state told : List ℕ) (ca
     pub stepped-as : {v : W} {y : Answer W X} {z : ℕ × List ℕ × List ℕ} → z ≡ stepTold S I y → y ≡ call v → v ≡ S .value state → S .holds state ≡ true → z ≡ stepped S I state told call
     stepped-as f e q h = f ∙ ap (stepTold S I) (e ∙ ap call q) ∙ sym (by-state h)
 
+-- a state that is handed back and given again is the same state: a call on its bytes is a call on it
+module _ {W X : Type 0} (S : States W) (I : Items X) (call : W → Answer W X) (w : W) where
+  pub carried : S .holds (S .bytes w) ≡ true → S .value (S .bytes w) ≡ w → (told : List ℕ) → length told ≡ I .long →
+      stepped S I (S .bytes w) told call ≡ stepTold S I (call w)
+  carried h e told l = by-state S I (S .bytes w) told call l h ∙ ap (λ (v : W). stepTold S I (call v)) e
+
 -- what an answer `r` of the walk's own tells
 module _ {W X R : Type 0} (S : States W) (I : Items X) (T : R → Answer W X) where
   pub tells : {r q : R} {n : ℕ} {a b : List ℕ} → r ≡ q → _≡_ {A = ℕ × List ℕ × List ℕ} (n, a, b) (stepTold S I (T q)) → _≡_ {A = ℕ × List ℕ × List ℕ} (n, a, b) (stepTold S I (T r))

@@ -2,3 +2,4 @@ pub mod Words
 pub mod Fields
 pub mod Boundary
 pub mod Signs
+pub mod Back
