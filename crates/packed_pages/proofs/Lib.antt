@@ -1,2 +1,3 @@
 mod Records
 mod Fixups
+pub mod Carried
