@@ -1,0 +1,78 @@
+//! The same sums, step by step through the C boundary: state and item are records of bytes.
+
+use brinetrellis::{answer, raw, record};
+
+fn word(record: &[u8], index: usize) -> u64 {
+    let mut bytes = [0; 8];
+    bytes.copy_from_slice(&record[8 * index..8 * (index + 1)]);
+    u64::from_le_bytes(bytes)
+}
+
+/// Calls until there is no item. A call answers its number and, with an item, what counts of it.
+fn sum(mut call: impl FnMut() -> (u64, u64)) -> u64 {
+    let mut sum = 0u64;
+    loop {
+        match call() {
+            (answer::ITEM, value) => sum = sum.wrapping_add(value),
+            _ => return sum,
+        }
+    }
+}
+
+pub fn rebase(stream: &[u8], size: u8) -> u64 {
+    let (mut state, mut item) = ([0; record::REBASE_STATE], [0; record::REBASE_ITEM]);
+    raw::rebase_start(size.into(), &mut state);
+    sum(|| {
+        let answer = raw::rebase_step(stream, &mut state, &mut item);
+        (answer, word(&item, 1))
+    })
+}
+
+pub fn bind(stream: &[u8], size: u8) -> u64 {
+    let (mut state, mut item) = ([0; record::BIND_STATE], [0; record::BIND_ITEM]);
+    raw::bind_plain(size.into(), &mut state);
+    sum(|| {
+        let answer = raw::bind_step(stream, &mut state, &mut item);
+        (answer, word(&item, 1))
+    })
+}
+
+pub fn trie(trie: &[u8], name: &mut [u8]) -> u64 {
+    let (mut state, mut item) = ([0; record::TRIE_STATE], [0; record::TRIE_ITEM]);
+    raw::trie_start(&mut state);
+    sum(|| {
+        let answer = raw::trie_step(trie, &mut state, name, u64::MAX, &mut item);
+        (answer, word(&item, 1))
+    })
+}
+
+pub fn pages(fixups: &[u8], contents: &[u8], base: u64) -> u64 {
+    let (mut state, mut segment) = ([0; record::SEGMENT_STATE], [0; record::SEGMENT_ITEM]);
+    raw::segment_start(fixups, &mut state);
+    raw::segment_step(fixups, &mut state, &mut segment);
+    let (mut state, mut item) = ([0; record::PAGE_STATE], [0; record::PAGE_ITEM]);
+    raw::page_start(fixups, &segment, base, &mut state);
+    sum(|| {
+        let answer = raw::page_step(fixups, contents, &mut state, &mut item);
+        (answer, word(&item, 0))
+    })
+}
+
+/// The answer of a preflight over three segments of one size.
+pub fn preflight_rebase(stream: &[u8], size: u8, room: u64) -> u64 {
+    let mut verdict = [0; record::VERDICT];
+    raw::preflight_rebase(stream, size.into(), &sizes(room), &mut verdict)
+}
+
+pub fn preflight_bind(stream: &[u8], size: u8, room: u64) -> u64 {
+    let mut verdict = [0; record::VERDICT];
+    raw::preflight_plain(stream, size.into(), &sizes(room), &mut verdict)
+}
+
+fn sizes(room: u64) -> [u8; 24] {
+    let mut sizes = [0; 24];
+    for size in sizes.chunks_exact_mut(8) {
+        size.copy_from_slice(&room.to_le_bytes());
+    }
+    sizes
+}

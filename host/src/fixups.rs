@@ -1,0 +1,109 @@
+//! The walk over the chained fixups of a segment.
+
+use crate::record::{self, word};
+use crate::walk::Walk;
+use crate::{raw, Refusal, Segment};
+
+/// What the loader puts into a pointer.
+#[derive(Clone, Copy, Debug, PartialEq, Eq)]
+pub enum Patch {
+    /// An address of the image.
+    Rebase {
+        /// Its offset, with high8 in the top byte.
+        target: u64,
+    },
+    /// The address of a symbol.
+    Bind {
+        /// The index of the import.
+        ordinal: u64,
+        /// What is added to the address.
+        addend: u64,
+    },
+}
+
+/// A pointer that the loader patches.
+#[derive(Clone, Copy, Debug, PartialEq, Eq)]
+pub struct Fixup {
+    /// Its offset in the segment.
+    pub place: u64,
+    /// What is put there.
+    pub patch: Patch,
+}
+
+/// The chained fixups of a segment, page by page and chain by chain. A refusal is the last item.
+#[derive(Clone, Debug)]
+pub struct Fixups<'a> {
+    fixups: &'a [u8],
+    contents: &'a [u8],
+    walk: Walk<{ record::PAGE_STATE }>,
+}
+
+impl<'a> Fixups<'a> {
+    /// A walk over the fixups of a segment, whose bytes are `contents`; `base` is the preferred load
+    /// address of the image.
+    pub fn new(
+        fixups: &'a [u8],
+        segment: &Segment,
+        base: u64,
+        contents: &'a [u8],
+    ) -> Result<Self, Refusal> {
+        let segment = segment.record();
+        let walk = Walk::start(|state| raw::page_start(fixups, &segment, base, state))?;
+        Ok(Fixups {
+            fixups,
+            contents,
+            walk,
+        })
+    }
+
+    /// A walk that goes on from a state. Any bytes may be given: a state that is none is refused by
+    /// the next call.
+    pub fn from_state(
+        fixups: &'a [u8],
+        contents: &'a [u8],
+        state: [u8; record::PAGE_STATE],
+    ) -> Self {
+        let walk = Walk::from_state(state);
+        Fixups {
+            fixups,
+            contents,
+            walk,
+        }
+    }
+
+    /// The state, to go on from.
+    pub fn into_state(self) -> [u8; record::PAGE_STATE] {
+        self.walk.into_state()
+    }
+}
+
+impl Iterator for Fixups<'_> {
+    type Item = Result<Fixup, Refusal>;
+
+    fn next(&mut self) -> Option<Self::Item> {
+        let (fixups, contents) = (self.fixups, self.contents);
+        let next = self
+            .walk
+            .next(|s, item| raw::page_step(fixups, contents, s, item));
+        next.map(|answer| answer.map(|item| Fixup::read(&item)))
+    }
+}
+
+impl Fixup {
+    fn read(item: &[u8; record::PAGE_ITEM]) -> Fixup {
+        let patch = match word(item, 1) {
+            0 => Patch::Rebase {
+                target: word(item, 2),
+            },
+            1 => Patch::Bind {
+                ordinal: word(item, 3),
+                addend: word(item, 4),
+            },
+            kind => unreachable!("a fixup is of kind 0 or 1: {}", kind),
+        };
+        Fixup {
+            place: word(item, 0),
+            patch,
+        }
+    }
+}
