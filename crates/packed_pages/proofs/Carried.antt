@@ -24,8 +24,8 @@ module _ (w : PageWalk) (e : Each (stateWords w) stateFields) where
   pub whole : stateAt (bytesOf (stateWords w)) ≡ w
   whole =
       λ j.
-        record {
-          segment =
+      record {
+        segment =
             record {
               index = back 0 (omega arith) j;
               size = back 1 (omega arith) j;
@@ -36,15 +36,15 @@ module _ (w : PageWalk) (e : Each (stateWords w) stateFields) where
               place = back 6 (omega arith) j;
               count = back 7 (omega arith) j;
             };
-          base = back 8 (omega arith) j;
-          linked = flag 9 (w .linked) (omega arith) refl j;
-          more = flag 10 (w .more) (omega arith) refl j;
-          page = back 11 (omega arith) j;
-          chain = back 12 (omega arith) j;
-          origin = back 13 (omega arith) j;
-          offset = back 14 (omega arith) j;
-          ended = flag 15 (w .ended) (omega arith) refl j;
-        }
+        base = back 8 (omega arith) j;
+        linked = flag 9 (w .linked) (omega arith) refl j;
+        more = flag 10 (w .more) (omega arith) refl j;
+        page = back 11 (omega arith) j;
+        chain = back 12 (omega arith) j;
+        origin = back 13 (omega arith) j;
+        offset = back 14 (omega arith) j;
+        ended = flag 15 (w .ended) (omega arith) refl j;
+      }
 
   -- so a call on the bytes of a state is a call on the state
   pub carried : (s contents told : List ℕ) → length told ≡ 40 →

@@ -14,8 +14,9 @@ use Rattle.cursor.specs.Cursor.{isPointerSize}
 use Rattle.listing.proofs.Starts.{no-size}
 use Rattle.listing.specs.Machine.{Machine}
 use Rattle.packing.specs.Boundary.{unfit}
-use Rattle.packing.specs.Words.{wordAt}
-use Rattle.packed_preflight.specs.Packed.{wordsFrom, sizesOf, verdictTold, flown, narrow, fewer}
+use Rattle.packing.proofs.Words.{words-more, length-words}
+use Rattle.packing.specs.Words.{wordAt, wordsFrom}
+use Rattle.packed_preflight.specs.Packed.{sizesOf, verdictTold, flown, narrow, fewer}
 use Rattle.preflight.specs.Told.{told}
 use Rattle.preflight.specs.declared.Verdict as code
 use Rattle.preflight.specs.Verdict.{Verdict, fault, withSizes, preflight}
@@ -23,13 +24,6 @@ use Rattle.refusal.specs.Numbers.{numberOf}
 use Rattle.refusal.specs.declared.Refusal.the-variants.{PointerSize, UnfitSizes}
 
 -- ---- read one by one
-
-words-more : (s : List ℕ) (i n : ℕ) → wordsFrom s i (suc n) ≡ wordsFrom s i n ++ (wordAt s (i + n) ∷ [])
-unfolding wordsFrom
-words-more s i zero = let z : i + 0 ≡ i = omega arith in rw z
-words-more s i (suc n) =
-    let z : i + 1 + n ≡ i + suc n = omega arith in
-    ap (λ (l : List ℕ). wordAt s i ∷ l) (words-more s (i + 1) n ∙ ap (λ (k : ℕ). wordsFrom s (i + 1) n ++ (wordAt s k ∷ [])) z)
 
 -- the first i of so many are read
 pub record Reading (s : List ℕ) (count : ℕ) (words : List ℕ) (i : ℕ) : Type 0 where
@@ -68,11 +62,6 @@ module _ (s words : List ℕ) where
 
     pub reads-all : count ≤ i → take count words ≡ wordsFrom s 0 count
     reads-all h = let z : i ≡ count = omega (arith, r .upto) in subst (λ (k : ℕ). take k words ≡ wordsFrom s 0 k) z (r .read)
-
-length-words : (s : List ℕ) (i n : ℕ) → length (wordsFrom s i n) ≡ n
-unfolding wordsFrom
-length-words s i zero = refl
-length-words s i (suc n) = ap suc (length-words s (i + 1) n)
 
 -- ---- a preflight
 

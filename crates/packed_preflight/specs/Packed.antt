@@ -1,19 +1,14 @@
 -- Preflights at the boundary: the sizes of the segments in bytes, and the verdict in two words.
-use Prim.Native.Nat.{ℕ, zero, suc, _+_, _/_, _%_}
+use Prim.Native.Nat.{ℕ, _/_, _%_}
 use mathlib.Core.Bool.{cond, _&&_}
 use mathlib.Core.List.{List, [], _∷_}
 use lib.Dec.{eqb, leb, ltb}
 use lib.ListN.{length}
 use Rattle.packing.specs.Boundary.{itemTold, unfit}
-use Rattle.packing.specs.Words.{wordAt, bytesOf}
+use Rattle.packing.specs.Words.{wordsFrom, bytesOf}
 use Rattle.preflight.specs.Verdict.{Verdict, pass, fault}
 
 -- ---- the sizes
-
--- so many words from an index on
-unfoldable pub wordsFrom : List ℕ → (i count : ℕ) → List ℕ
-wordsFrom s i zero = []
-wordsFrom s i (suc n) = wordAt s i ∷ wordsFrom s (i + 1) n
 
 abbrev pub sizesOf : List ℕ → List ℕ
 sizesOf s = wordsFrom s 0 (length s / 8)

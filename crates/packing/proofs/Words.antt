@@ -14,7 +14,7 @@ use Rattle.numbers.specs.LittleEndian.{fieldAt}
 use Rattle.numbers.specs.Then.{thenNumber}
 use Rattle.numbers.specs.declared.Number.{Number}
 use Rattle.numbers.specs.declared.Number.the-variants.{Value, Fault}
-use Rattle.packing.specs.Words.{wordAt, toDigits, wordBytes, bytesOf, written}
+use Rattle.packing.specs.Words.{wordAt, wordsFrom, toDigits, wordBytes, bytesOf, written}
 
 -- ---- a word read
 
@@ -31,6 +31,20 @@ module _ (s : List ℕ) (i : ℕ) where
   pub word-out : length s / 8 ≤ i → 0 ≡ wordAt s i
   unfolding wordAt thenNumber
   word-out h = rw (field-out 8 s (8 * i) (omega arith))
+
+-- ---- words read
+
+pub words-more : (s : List ℕ) (i n : ℕ) → wordsFrom s i (suc n) ≡ wordsFrom s i n ++ (wordAt s (i + n) ∷ [])
+unfolding wordsFrom
+words-more s i zero = let z : i + 0 ≡ i = omega arith in rw z
+words-more s i (suc n) =
+    let z : i + 1 + n ≡ i + suc n = omega arith in
+    ap (λ (l : List ℕ). wordAt s i ∷ l) (words-more s (i + 1) n ∙ ap (λ (k : ℕ). wordsFrom s (i + 1) n ++ (wordAt s k ∷ [])) z)
+
+pub length-words : (s : List ℕ) (i n : ℕ) → length (wordsFrom s i n) ≡ n
+unfolding wordsFrom
+length-words s i zero = refl
+length-words s i (suc n) = ap suc (length-words s (i + 1) n)
 
 -- ---- words written
 

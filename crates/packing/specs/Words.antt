@@ -1,5 +1,5 @@
 -- Words in bytes: each is eight bytes, the lowest first.
-use Prim.Native.Nat.{ℕ, zero, suc, _*_, _/_, _%_}
+use Prim.Native.Nat.{ℕ, zero, suc, _+_, _*_, _/_, _%_}
 use mathlib.Core.Bool.{cond}
 use mathlib.Core.List.{List, [], _∷_, _++_}
 use lib.Dec.{eqb}
@@ -10,6 +10,11 @@ use Rattle.numbers.specs.Then.{thenNumber}
 -- the word of an index; 0 where it does not lie in the bytes
 unfoldable pub wordAt : List ℕ → ℕ → ℕ
 wordAt s i = thenNumber (fieldAt 8 s (8 * i)) 0 (λ v next. v)
+
+-- so many words, from an index on
+unfoldable pub wordsFrom : List ℕ → (i count : ℕ) → List ℕ
+wordsFrom s i zero = []
+wordsFrom s i (suc n) = wordAt s i ∷ wordsFrom s (i + 1) n
 
 -- the lowest digits of a number, so many
 unfoldable pub toDigits : (base count : ℕ) → ℕ → List ℕ

@@ -1,0 +1,5 @@
+pub mod Signs
+pub mod States
+pub mod Items
+pub mod Starts
+pub mod Carried

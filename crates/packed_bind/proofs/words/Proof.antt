@@ -1,0 +1,22 @@
+-- `packed_bind::words` meets its contract. Assumes nothing.
+use borrow.Author.Needs.{needs}
+use Rattle.packed_bind.proofs.words.Statement.{statement}
+use Rattle.packed_bind.proofs.words.Tie as tie
+
+pub words-spec : {M : Type 1} → statement M
+words-spec =
+    tie.close
+    (tie.spec
+    (λ c. search needs)
+    (λ c κs. search needs)
+    (λ c κs. search needs)
+    (λ c κs. search needs)
+    (λ c κs. search needs)
+    (λ c κs. search needs)
+    (λ c κs. search needs)
+    (λ c. search needs)
+    (λ c. search needs)
+    (λ c κs. search needs)
+    (λ c. search needs)
+    (λ c κs. search needs)
+    (λ c. cc))
