@@ -1,0 +1,123 @@
+-- A state whose lists have their length and whose words are such as their types have comes back from its bytes whole. Assumes nothing.
+use Prim.Native.Nat.{ℕ, suc, _+_, _*_, _≤_, _<_}
+use mathlib.Core.Path.{_≡_, refl, sym, ap, _∙_}
+use mathlib.Core.Bool.{Bool, true, false}
+use mathlib.Core.List.{List, [], _∷_, _++_}
+use native.Mathlib.Omega.{arith}
+use borrow.Author.Tests.{le-leb, eq-eqb}
+use lib.ListN.{length, take, drop, getD, length-append, length-drop, List·getD-append}
+use lib.Seq.{take-append-le, drop-append-le, drop-at, getD-append-add}
+use Rattle.numbers.specs.Digits.{fromDigits}
+use Rattle.numbers.specs.LittleEndian.{littleEndian, fieldAt}
+use Rattle.numbers.specs.Then.{thenNumber}
+use Rattle.packed_trie.proofs.Steps.{by-state}
+use Rattle.packed_trie.specs.Packed.{stateLong, stateWords, stateBytes, stateAt, holds, itemLong, stepTold, stepped}
+use Rattle.packing.proofs.Back.{word-back, flag-back}
+use Rattle.packing.proofs.Words.{length-bytes}
+use Rattle.packing.specs.Fields.{u64, isSet, bit}
+use Rattle.packing.specs.Words.{wordsFrom, wordAt, bytesOf}
+use Rattle.trie.specs.Call.{call}
+use Rattle.trie.specs.Frames.{most}
+use Rattle.trie.specs.declared.TrieWalk.{TrieWalk}
+
+pub record Good (w : TrieWalk) : Type 0 where
+  pub words : (i : ℕ) → getD (stateWords w) i 0 ≤ u64
+  pub places : length (w .places) ≡ most
+  pub offsets : length (w .offsets) ≡ most
+  pub lengths : length (w .lengths) ≡ most
+  pub left : length (w .left) ≡ most
+
+-- what stands behind a word does not matter
+word-front : (s t : List ℕ) (i : ℕ) → 8 * i + 8 ≤ length s → wordAt (s ++ t) i ≡ wordAt s i
+unfolding wordAt fieldAt thenNumber littleEndian
+word-front s t i h =
+    let part : take 8 (drop (8 * i) (s ++ t)) ≡ take 8 (drop (8 * i) s) =
+    ap (take 8) (drop-append-le (8 * i) s t (omega arith)) ∙ take-append-le 8 (drop (8 * i) s) t (omega (arith, length-drop (8 * i) s)) in
+    rw (le-leb (8 * i + 8) (length (s ++ t)) (omega (arith, length-append s t)), le-leb (8 * i + 8) (length s) h)
+    (ap (fromDigits 256) part)
+
+words-back : (s l : List ℕ) (first : ℕ) → ((i : ℕ) → i < length l → wordAt s (first + i) ≡ getD l i 0) → wordsFrom s first (length l) ≡ l
+unfolding wordsFrom
+words-back s [] first h = refl
+words-back s (x ∷ l) first h =
+    let z : first ≡ first + 0 = omega arith in
+    let next : (i : ℕ) → i < length l → wordAt s (first + 1 + i) ≡ getD l i 0 =
+    λ i k. let e : first + 1 + i ≡ first + suc i = omega arith in ap (wordAt s) e ∙ h (suc i) (omega arith) in
+    (λ j. (ap (wordAt s) z ∙ h 0 (omega arith)) j ∷ words-back s l (first + 1) next j)
+
+flag-most : (b : Bool) → bit b ≤ 1
+flag-most true = omega arith
+flag-most false = omega arith
+
+module _ (w : TrieWalk) (g : Good w) where
+  long : length (bytesOf (stateWords w)) ≡ 8 * (3 + 3 * most)
+  long =
+      let n₁ = length-append (w .places) (w .offsets) in
+      let n₂ = length-append (w .places ++ w .offsets) (w .lengths) in
+      omega (arith, length-bytes (stateWords w), g .places, g .offsets, g .lengths)
+
+  back : (i : ℕ) → i < 771 → wordAt (stateBytes w) i ≡ getD (stateWords w) i 0
+  unfolding stateBytes
+  back i h =
+      let n = length-bytes (stateWords w) in
+      word-front (bytesOf (stateWords w)) (w .left) i (omega (arith, long))
+      ∙ word-back (stateWords w) i (omega (arith, long)) (g .words i)
+
+  flag : (i : ℕ) (b : Bool) → i < 771 → getD (stateWords w) i 0 ≡ bit b → isSet (wordAt (stateBytes w) i) ≡ b
+  flag i b h q = ap isSet (back i h ∙ q) ∙ flag-back b
+
+  list : (l : List ℕ) (first : ℕ) → length l ≡ most → first + most ≤ 771 → ((i : ℕ) → i < most → getD (stateWords w) (first + i) 0 ≡ getD l i 0) → wordsFrom (stateBytes w) first most ≡ l
+  list l first n h q =
+      ap (wordsFrom (stateBytes w) first) (sym n)
+      ∙ words-back (stateBytes w) l first (λ i k. back (first + i) (omega arith) ∙ q i (omega arith))
+
+  module _ (i : ℕ) (h : i < most) where
+    in-places : getD (stateWords w) (3 + i) 0 ≡ getD (w .places) i 0
+    in-places =
+        let e : 3 + i ≡ suc (suc (suc i)) = omega arith in
+        ap (λ (n : ℕ). getD (stateWords w) n 0) e
+        ∙ List·getD-append (w .places ++ w .offsets) (w .lengths) 0 i (omega (arith, length-append (w .places) (w .offsets), g .places))
+        ∙ List·getD-append (w .places) (w .offsets) 0 i (omega (arith, g .places))
+
+    in-offsets : getD (stateWords w) (259 + i) 0 ≡ getD (w .offsets) i 0
+    in-offsets =
+        let e : 259 + i ≡ suc (suc (suc (length (w .places) + i))) = omega (arith, g .places) in
+        ap (λ (n : ℕ). getD (stateWords w) n 0) e
+        ∙ List·getD-append (w .places ++ w .offsets) (w .lengths) 0 (length (w .places) + i) (omega (arith, length-append (w .places) (w .offsets), g .offsets))
+        ∙ getD-append-add (w .places) (w .offsets) i 0
+
+    in-lengths : getD (stateWords w) (515 + i) 0 ≡ getD (w .lengths) i 0
+    in-lengths =
+        let e : 515 + i ≡ suc (suc (suc (length (w .places ++ w .offsets) + i))) = omega (arith, length-append (w .places) (w .offsets), g .places, g .offsets) in
+        ap (λ (n : ℕ). getD (stateWords w) n 0) e ∙ getD-append-add (w .places ++ w .offsets) (w .lengths) i 0
+
+  bytes : drop (8 * (3 + 3 * most)) (stateBytes w) ≡ w .left
+  unfolding stateBytes
+  bytes = drop-at (bytesOf (stateWords w)) (w .left) (8 * (3 + 3 * most)) long
+
+  pub whole : stateAt (stateBytes w) ≡ w
+  whole =
+      λ j.
+      record {
+        depth = back 0 (omega arith) j;
+        begun = flag 1 (w .begun) (omega arith) refl j;
+        ended = flag 2 (w .ended) (omega arith) refl j;
+        places = list (w .places) 3 (g .places) (omega arith) in-places j;
+        offsets = list (w .offsets) 259 (g .offsets) (omega arith) in-offsets j;
+        lengths = list (w .lengths) 515 (g .lengths) (omega arith) in-lengths j;
+        left = bytes j;
+      }
+
+  holds-back : holds (stateBytes w) ≡ true
+  unfolding holds stateBytes
+  holds-back =
+      let n : length (stateBytes w) ≡ stateLong = omega (arith, length-append (bytesOf (stateWords w)) (w .left), long, g .left) in
+      let e₁ : wordAt (stateBytes w) 1 ≤ 1 = omega (arith, back 1 (omega arith), flag-most (w .begun)) in
+      let e₂ : wordAt (stateBytes w) 2 ≤ 1 = omega (arith, back 2 (omega arith), flag-most (w .ended)) in
+      rw (eq-eqb (length (stateBytes w)) stateLong n, le-leb (wordAt (stateBytes w) 1) 1 e₁, le-leb (wordAt (stateBytes w) 2) 1 e₂)
+
+  -- so a call on the bytes of a state is a call on the state
+  pub carried : (s : List ℕ) (limit : ℕ) (name told : List ℕ) → length told ≡ itemLong →
+      stepped s limit (stateBytes w) name told ≡ stepTold (call s limit w name)
+  carried s limit name told l =
+      by-state s limit (stateBytes w) name told l holds-back ∙ ap (λ (v : TrieWalk). stepTold (call s limit v name)) whole

@@ -1,0 +1,30 @@
+-- The bytes of a state, tested. Assumes nothing.
+use Prim.Native.Nat.{ℕ, _≤_, _<_}
+use mathlib.Core.Path.{_≡_, sym, ap, _∙_}
+use mathlib.Core.Bool.{Bool, true, false, _&&_, and-eq-true-iff}
+use mathlib.Core.List.{List}
+use borrow.Author.Tests.{eq-eqb, ne-eqb, le-leb, lt-leb, eqb-true}
+use lib.Dec.{eqb, leb}
+use lib.ListN.{length}
+use Rattle.packing.specs.Words.{wordAt}
+use Rattle.packed_trie.specs.Packed.{stateLong, holds}
+
+module _ (s : List ℕ) where
+  pub other-length : (length s ≡ stateLong → ⊥) → false ≡ holds s
+  unfolding holds
+  other-length h = rw (ne-eqb (length s) stateLong h)
+
+  module _ (l : length s ≡ stateLong) {v : ℕ} (e : v ≡ wordAt s 1) where
+    by-flag : {b : Bool} → leb v 1 ≡ b → holds s ≡ (b && leb (wordAt s 2) 1)
+    unfolding holds
+    by-flag f = rw (eq-eqb (length s) stateLong l, sym (ap (λ (n : ℕ). leb n 1) e) ∙ f)
+
+    pub no-flag : 1 < v → false ≡ holds s
+    no-flag h = sym (by-flag (lt-leb v 1 h))
+
+    pub last-flag : v ≤ 1 → {w : ℕ} → w ≡ wordAt s 2 → leb w 1 ≡ holds s
+    last-flag h f = ap (λ (n : ℕ). leb n 1) f ∙ sym (by-flag (le-leb v 1 h))
+
+  pub holds-long : holds s ≡ true → length s ≡ stateLong
+  unfolding holds
+  holds-long e = eqb-true (length s) stateLong (and-eq-true-iff (eqb (length s) stateLong) (leb (wordAt s 1) 1 && leb (wordAt s 2) 1) .0 e .0)

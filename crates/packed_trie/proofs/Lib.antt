@@ -1,0 +1,6 @@
+mod Turns
+mod Tells
+mod Flags
+mod Kept
+mod Steps
+pub mod Carried

@@ -1,0 +1,28 @@
+-- `packed_trie::fill` meets its contract. Assumes nothing.
+use Prim.Native.Nat.{_-_}
+use Rattle.packed_trie.proofs.Turns.{Reading, reads-none, reads-on, reads-all}
+use borrow.Author.Needs.{needs}
+use Rattle.packed_trie.proofs.fill.Statement.{statement}
+use Rattle.packed_trie.proofs.fill.Tie as tie
+
+abbrev Inv-loop : tie.InvT-loop
+Inv-loop s first words₀ i₀ words i = Reading s first words i
+
+abbrev μ-loop : tie.MeasureT-loop
+μ-loop s first words₀ i₀ words i = 256 - i
+
+pub fill-spec : {M : Type 1} → statement M
+fill-spec =
+    tie.close
+    (tie.spec
+    Inv-loop
+    μ-loop
+    (λ c. search (reads-none, needs))
+    (λ c. search needs)
+    (λ c κs. search needs)
+    (λ c. search needs)
+    (λ c. search needs)
+    (λ c. search needs)
+    (λ c. search needs)
+    (λ c. search (reads-on, needs))
+    (λ c. search (reads-all, needs)))
