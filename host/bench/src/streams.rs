@@ -14,6 +14,9 @@ fn uleb(bytes: &mut Vec<u8>, mut value: u64) {
     bytes.push(value as u8);
 }
 
+/// The size of segments that all places fit into, and some do not into a 64th of it.
+pub const ROOM: u64 = 0x80_0000;
+
 /// A number behind its opcode.
 fn operation(bytes: &mut Vec<u8>, opcode: u8, value: u64) {
     bytes.push(opcode);
@@ -40,9 +43,6 @@ pub fn rebases() -> Stream {
     Stream { bytes, items }
 }
 
-/// The size of each segment, into which the places of `rebases` and of `binds` fit.
-pub const ROOM: u64 = 0x1000 * 1000;
-
 /// One operation of very many places.
 pub fn repeat() -> Stream {
     let items = 1_000_000;
@@ -52,9 +52,6 @@ pub fn repeat() -> Stream {
     bytes.push(0x00);
     Stream { bytes, items }
 }
-
-/// The size of each segment, into which the places of `repeat` just fit.
-pub const REPEAT_ROOM: u64 = 0x10 + 8 * 1_000_000;
 
 /// A name for most places.
 pub fn binds() -> Stream {

@@ -3,83 +3,85 @@
 use std::hint::black_box;
 use std::time::Instant;
 
-/// A walk over a whole stream, which sums up one number of each item.
+/// A walk over a whole stream.
 pub type Lap<'a> = Box<dyn Fn() -> u64 + 'a>;
 
-/// A row of the table: ours, and the Rust where it is at hand.
+/// A row of the table.
 pub struct Row<'a> {
-    pub title: &'static str,
+    pub what: &'static str,
+    pub way: &'static str,
     pub items: u64,
     pub ours: Lap<'a>,
-    pub rust: Option<Lap<'a>>,
+    pub rust: Lap<'a>,
 }
 
 /// Rounds, of which the best counts. In each, ours and the Rust take turns.
-const ROUNDS: usize = 15;
+const ROUNDS: usize = 20;
 /// The least time of one run, in nanoseconds.
-const RUN: u128 = 4_000_000;
-
-/// How many laps make a run.
-fn laps(lap: &Lap<'_>) -> u32 {
-    let mut count = 1;
-    while run(lap, count) < RUN {
-        count *= 2;
-    }
-    count
-}
+const RUN: u128 = 3_000_000;
 
 /// The time of so many laps, in nanoseconds.
-fn run(lap: &Lap<'_>, count: u32) -> u128 {
+fn run(lap: &Lap<'_>, laps: u32) -> u128 {
     let start = Instant::now();
-    for _ in 0..count {
+    for _ in 0..laps {
         black_box(lap());
     }
     start.elapsed().as_nanos()
 }
 
-/// Nanoseconds for an item: of ours, and of the Rust.
-fn best(row: &Row<'_>) -> (f64, Option<f64>) {
-    let all: Vec<&Lap<'_>> = [Some(&row.ours), row.rust.as_ref()]
-        .into_iter()
-        .flatten()
-        .collect();
-    let counts: Vec<u32> = all.iter().map(|lap| laps(lap)).collect();
-    let mut best = vec![f64::INFINITY; all.len()];
-    for _ in 0..ROUNDS {
-        for (index, lap) in all.iter().enumerate() {
-            let laps = f64::from(counts[index]);
-            let time = run(lap, counts[index]) as f64 / laps / row.items as f64;
-            best[index] = best[index].min(time);
-        }
+/// How many laps make a run.
+fn enough(lap: &Lap<'_>) -> u32 {
+    let mut laps = 1;
+    while run(lap, laps) < RUN {
+        laps *= 2;
     }
-    (best[0], best.get(1).copied())
+    laps
 }
 
-/// Whether ours and the Rust sum up to the same; where not, which row.
+/// Nanoseconds for an item, of each of the laps.
+fn best<const N: usize>(laps: [&Lap<'_>; N], items: u64) -> [f64; N] {
+    let counts = laps.map(enough);
+    let mut best = [f64::INFINITY; N];
+    for _ in 0..ROUNDS {
+        for index in 0..N {
+            let count = counts[index];
+            let time = run(laps[index], count) as f64 / f64::from(count);
+            best[index] = best[index].min(time / items as f64);
+        }
+    }
+    best
+}
+
+/// Whether both sides answer the same, in all rows.
 pub fn compare(rows: &[Row<'_>]) -> Result<(), String> {
     for row in rows {
-        let ours = (row.ours)();
-        if let Some(rust) = row.rust.as_ref().map(|lap| lap()) {
-            if ours != rust {
-                let title = row.title;
-                return Err(format!("{title}: ours says {ours}, the Rust {rust}"));
-            }
+        let (ours, rust) = ((row.ours)(), (row.rust)());
+        if ours != rust {
+            let (what, way) = (row.what, row.way);
+            return Err(format!("{what}, {way}: ours says {ours}, the Rust {rust}"));
         }
     }
     Ok(())
 }
 
-pub fn print(rows: &[Row<'_>]) {
-    println!("ours/Rust  ours, ns  Rust, ns    items  walk");
+/// A number with three digits that count.
+fn short(number: f64) -> String {
+    let decimals = (2.0 - number.log10().floor()).clamp(0.0, 9.0);
+    format!("{number:.*}", decimals as usize)
+}
+
+/// Times the rows and prints them, with the Rust or without.
+pub fn print(rows: &[Row<'_>], live: bool) {
+    println!("ours/Rust   ours, ns   Rust, ns      items");
     for row in rows {
-        let (title, items) = (row.title, row.items);
-        let (ours, rust) = best(row);
-        match rust {
-            Some(rust) => {
-                let ratio = ours / rust;
-                println!("{ratio:>9.2} {ours:>9.2} {rust:>9.2} {items:>8}  {title}");
-            }
-            None => println!("{:>9} {ours:>9.2} {:>9} {items:>8}  {title}", "-", "-"),
-        }
+        let (what, way, items) = (row.what, row.way, row.items);
+        let (ratio, ours, rust) = if live {
+            let [ours, rust] = best([&row.ours, &row.rust], items);
+            (short(ours / rust), short(ours), short(rust))
+        } else {
+            let [ours] = best([&row.ours], items);
+            ("-".to_string(), short(ours), "-".to_string())
+        };
+        println!("{ratio:>9} {ours:>10} {rust:>10} {items:>10}  {what}: {way}");
     }
 }
