@@ -1,9 +1,9 @@
 -- The turns of a lap's loop, by what its parts answered: for `search`. Assumes nothing.
-use Prim.Native.Nat.{ℕ, zero, suc, _+_, _-_, _≤_, _<_, _%_, _^_}
+use Prim.Native.Nat.{ℕ, suc, _-_, _≤_, _<_}
 use mathlib.Core.Path.{_≡_, refl, sym, ap, _∙_}
 use native.Mathlib.Omega.{arith}
 use Rattle.laps.specs.Laps.{turn, lap, fromStart, ofItem}
-use Rattle.runs.specs.Runs.{Begin, begun, notBegun, Answer, item, end, refused}
+use Rattle.runs.specs.Runs.{Begin, Answer}
 
 -- the invariant: with the sum so far, the calls that are left make the whole
 pub record Lapped {W X : Type 0} (value : X → ℕ) (call : W → Answer W X) (whole left sum : ℕ) (w : W) : Type 0 where
@@ -19,12 +19,11 @@ module _ {W X : Type 0} (value : X → ℕ) (call : W → Answer W X) (left sum 
   unfolding lap
   one-left h e = let q : left ≡ suc (left - 1) = omega arith in ap (λ (n : ℕ). lap value call n sum w) q ∙ ap (turn value (lap value call (left - 1)) sum) (sym e)
 
-module _ {W X : Type 0} {value : X → ℕ} {call : W → Answer W X} where
-  pub starts : {limit : ℕ} {w : W} → Lapped value call (lap value call limit 0 w) limit 0 w
-  starts = record { same = refl }
+pub starts : {W X : Type 0} {value : X → ℕ} {call : W → Answer W X} {limit : ℕ} {w : W} → Lapped value call (lap value call limit 0 w) limit 0 w
+starts = record { same = refl }
 
-  pub full : {whole left sum : ℕ} {w : W} → Lapped value call whole left sum w → left ≤ 0 → sum ≡ whole
-  full {whole} {left} {sum} {w} l h = sym (none-left value call left sum w h) ∙ l .same
+pub full : {W X : Type 0} {value : X → ℕ} {call : W → Answer W X} {whole left sum : ℕ} {w : W} → Lapped value call whole left sum w → left ≤ 0 → sum ≡ whole
+full {value = value} {call = call} {left = left} {sum = sum} {w = w} l h = sym (none-left value call left sum w h) ∙ l .same
 
 -- `r` is the code's answer, and `q` what a match found it to be
 module _
@@ -44,9 +43,6 @@ module _
 
 pub started : {W R : Type 0} (T : R → Begin W) (rest : W → ℕ) {r q : R} {b : Begin W} {y : ℕ} → r ≡ q → T r ≡ b → y ≡ fromStart rest (T q) → y ≡ fromStart rest b
 started T rest f e h = h ∙ ap (fromStart rest) (sym (ap T f) ∙ e)
-
-pub begins : {W R : Type 0} (T : R → Begin W) {X : Type 0} {value : X → ℕ} {call : W → Answer W X} {r q : R} {b : Begin W} {w : W} {limit : ℕ} → r ≡ q → T r ≡ b → T q ≡ begun w → Lapped value call (fromStart (lap value call limit 0) b) limit 0 w
-begins T {value = value} {call = call} {limit = limit} f e g = record { same = ap (fromStart (lap value call limit 0)) (sym g ∙ sym (ap T f) ∙ e) }
 
 pub stepped : {W X R : Type 0} (T : R → Answer W X) (rest : X → ℕ) {r q : R} {a : Answer W X} {y : ℕ} → r ≡ q → T r ≡ a → y ≡ ofItem rest (T q) → y ≡ ofItem rest a
 stepped T rest f e h = h ∙ ap (ofItem rest) (sym (ap T f) ∙ e)

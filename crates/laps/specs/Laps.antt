@@ -10,7 +10,6 @@ use Rattle.chains.specs.declared.SegmentWalk.{SegmentWalk}
 use Rattle.listing.specs.Call.{begin, call}
 use Rattle.pages.specs.Call as pages
 use Rattle.pages.specs.ChainedPointers.{Fixed}
-use Rattle.pages.specs.declared.PageWalk.{PageWalk}
 use Rattle.rebase.specs.Rebases.{unset, rebases}
 use Rattle.rebase.specs.declared.Rebase.{Rebase}
 use Rattle.runs.specs.Runs.{Begin, begun, notBegun, Answer, item, end, refused}
@@ -60,11 +59,8 @@ bindSum s size limit = fromStart (lap bindOffset (call binds s) limit 0) (begin 
 abbrev pub fixupPlace : Fixed → ℕ
 fixupPlace x = x .place
 
-abbrev pub pageLap : (s d : List ℕ) (limit : ℕ) → PageWalk → ℕ
-pageLap s d limit = lap fixupPlace (pages.call s d) limit 0
-
 abbrev pub segmentSum : (s d : List ℕ) (base limit : ℕ) → Segment → ℕ
-segmentSum s d base limit g = fromStart (pageLap s d limit) (pages.begin s g base)
+segmentSum s d base limit g = fromStart (lap fixupPlace (pages.call s d) limit 0) (pages.begin s g base)
 
 abbrev pub stepSum : (s d : List ℕ) (base limit : ℕ) → SegmentWalk → ℕ
 stepSum s d base limit v = ofItem (segmentSum s d base limit) (segments.call s v)

@@ -1,6 +1,6 @@
 // Chained fixups: the places.
 ghost use mathlib.Core.Path.{_≡_};
-ghost use Rattle.laps.specs.Laps.{pageLap, segmentSum, stepSum, pageSum};
+ghost use Rattle.laps.specs.Laps.{segmentSum, stepSum, pageSum};
 use chains::Segment;
 use chains::SegmentStart;
 use chains::SegmentStep;
@@ -34,15 +34,9 @@ fn first_lap(v: SegmentWalk, s: &[u8], d: &[u8], base: u64, limit: u64) -> u64
 fn segment_lap(segment: Segment, s: &[u8], d: &[u8], base: u64, limit: u64) -> u64
     ensures { λ r. ⌜ r ≡ segmentSum (now (s .entry)) (now (d .entry)) base limit segment ⌝ }
 {
-    match PageWalk::start(s, segment, base) {
-        PageStart::Begun(w) => page_lap(w, s, d, limit),
-        PageStart::Refused(_) => 0,
-    }
-}
-
-fn page_lap(start: PageWalk, s: &[u8], d: &[u8], limit: u64) -> u64
-    ensures { λ r. ⌜ r ≡ pageLap (now (s .entry)) (now (d .entry)) limit start ⌝ }
-{
+    let PageStart::Begun(start) = PageWalk::start(s, segment, base) else {
+        return 0;
+    };
     let mut w = start;
     let mut left = limit;
     let mut sum: u64 = 0;

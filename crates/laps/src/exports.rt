@@ -19,11 +19,11 @@ pub extern "C" fn laps_trie(trie: &[u8], name: &mut [u8], limit: u64) -> u64
         let answer = told.answer;
         w = told.walk;
         match answer {
+            TrieAnswer::More => return sum,
             TrieAnswer::Export { length, .. } => {
                 sum = wrapping_add_u64(sum, length);
                 left -= 1;
             }
-            TrieAnswer::More => return sum,
             TrieAnswer::End => return sum,
             TrieAnswer::Refused(_) => return sum,
         }

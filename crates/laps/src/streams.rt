@@ -22,8 +22,8 @@ pub extern "C" fn laps_rebase(stream: &[u8], size: u8, limit: u64) -> u64
     let mut sum: u64 = 0;
     while 0 < left {
         match w.step(stream) {
-            RebaseStep::Item(x, next) => {
-                sum = wrapping_add_u64(sum, x.offset);
+            RebaseStep::Item(place, next) => {
+                sum = wrapping_add_u64(sum, place.offset);
                 w = next;
                 left -= 1;
             }
@@ -47,8 +47,8 @@ pub extern "C" fn laps_bind(stream: &[u8], size: u8, limit: u64) -> u64
     let mut sum: u64 = 0;
     while 0 < left {
         match w.step(stream) {
-            BindStep::Item(x, next) => {
-                sum = wrapping_add_u64(sum, x.offset);
+            BindStep::Item(bound, next) => {
+                sum = wrapping_add_u64(sum, bound.offset);
                 w = next;
                 left -= 1;
             }
