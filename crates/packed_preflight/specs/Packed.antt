@@ -30,6 +30,6 @@ flown sizes told flight =
 abbrev pub narrow : ℕ → ℕ
 narrow size = cond (leb size 255) size 0
 
--- 17 are as many too many as more are
+-- a preflight refuses 17 sizes as it refuses more
 abbrev pub fewer : ℕ → ℕ
 fewer count = cond (ltb count 17) count 17

@@ -7,7 +7,7 @@ ghost use Rattle.packing.specs.Boundary.{started, stepTold, stepped};
 ghost use Rattle.packing.specs.Fields.{fits};
 ghost use Rattle.rebase.specs.Rebases.{unset, rebases};
 ghost use Rattle.rebase.specs.Told.{view, told};
-ghost use Rattle.packed_rebase.specs.Packed.{stateFields, stateWords, stateAt, states, itemWords, items};
+ghost use Rattle.packed_rebase.specs.Packed.{stateFields, stateWords, stateAt, states, items};
 use cursor::Cursor;
 use packing::bit;
 use packing::fits;

@@ -1,29 +1,10 @@
 //! The same sums by the crate object 0.40.0.
 
-use oracle::endian::{LittleEndian, U32};
-use oracle::loader::DyldInfoCommand;
+use oracle::command;
+use oracle::endian::LittleEndian;
 use oracle::read::macho::DyldChainedFixups;
 
 const LE: LittleEndian = LittleEndian;
-
-/// A load command whose every part is the whole of the lent bytes.
-fn command(length: usize) -> DyldInfoCommand<LittleEndian> {
-    let word = |value: usize| U32::new(LE, value as u32);
-    DyldInfoCommand {
-        cmd: word(0),
-        cmdsize: word(0),
-        rebase_off: word(0),
-        rebase_size: word(length),
-        bind_off: word(0),
-        bind_size: word(length),
-        weak_bind_off: word(0),
-        weak_bind_size: word(length),
-        lazy_bind_off: word(0),
-        lazy_bind_size: word(length),
-        export_off: word(0),
-        export_size: word(length),
-    }
-}
 
 pub fn rebase(stream: &[u8], size: u8) -> u64 {
     let mut walk = command(stream.len()).rebases(LE, stream, size).unwrap();

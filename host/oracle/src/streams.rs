@@ -7,7 +7,7 @@ use crate::texts::number;
 use crate::{Answers, Bounds, Stream, END};
 
 /// A load command whose every part is the whole of the lent bytes.
-pub(crate) fn command(length: usize) -> DyldInfoCommand<LittleEndian> {
+pub fn command(length: usize) -> DyldInfoCommand<LittleEndian> {
     let word = |value: usize| U32::new(LittleEndian, value as u32);
     DyldInfoCommand {
         cmd: word(0),

@@ -2,7 +2,6 @@
 use Prim.Native.Nat.{_-_}
 use Rattle.packed_preflight.proofs.Flights.{Reading, reads-none, reads-on, reads-fit, reads-all}
 use borrow.Author.Needs.{needs}
-use native.Mathlib.Omega.{arith}
 use Rattle.packed_preflight.proofs.read.Statement.{statement}
 use Rattle.packed_preflight.proofs.read.Tie as tie
 

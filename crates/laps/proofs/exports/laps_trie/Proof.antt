@@ -1,5 +1,4 @@
 -- `laps::exports::laps_trie` meets its contract. Assumes nothing.
-use mathlib.Core.Path.{refl}
 use lib.ListN.{length}
 use Rattle.laps.proofs.Names.{Named, named-laws}
 use Rattle.laps.specs.Laps.{trieLap}
