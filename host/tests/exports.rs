@@ -3,7 +3,7 @@
 mod common;
 
 use brinetrellis::{Export, Exports, Found, Progress, Refusal, Target};
-use common::SHARED;
+use common::{chain, SHARED};
 
 fn regular(name: &[u8], flags: u8, address: u64) -> Export<'static> {
     Export {
@@ -210,18 +210,6 @@ fn names_take_the_room_that_there_is() {
     // Without any room, the empty name is one that fits.
     let mut walk = Exports::with_room(b"\x02\x00\x05\x00", 0);
     assert_eq!(walk.next(), Some(Ok(regular(b"", 0, 5))));
-}
-
-/// So many nodes of five bytes, each with one child at the end of an empty edge, the next one; the
-/// offset is spelled with two bytes. The last has no child, and exports 7.
-fn chain(nodes: usize) -> Vec<u8> {
-    let mut trie = Vec::new();
-    for next in (1..nodes).map(|node| 5 * node) {
-        let low = 0x80 | (next % 128) as u8;
-        trie.extend([0x00, 0x01, 0x00, low, (next / 128) as u8]);
-    }
-    trie.extend([0x02, 0x00, 0x07, 0x00]);
-    trie
 }
 
 #[test]

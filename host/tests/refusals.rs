@@ -4,7 +4,7 @@ mod common;
 
 use brinetrellis::preflight::{self, Verdict};
 use brinetrellis::{Binds, Exports, Fixups, Imports, NoRefusal, Rebases, Refusal, Segments};
-use common::{one_segment, u32s, with_imports, S1, S4};
+use common::{chain, one_segment, u32s, with_imports, S1, S4};
 use std::collections::BTreeMap;
 
 /// What refuses a rebase stream of pointer size 8.
@@ -40,14 +40,6 @@ fn flight(stream: &[u8], sizes: &[u64]) -> Option<Refusal> {
     }
 }
 
-/// A chain of 257 nodes, each at the end of an empty edge from the one before. All but the last have five
-/// bytes: the offset of the next is spelled with two.
-fn deep() -> Vec<u8> {
-    let node = |next: usize| [0, 1, 0, 0x80 | (next % 128) as u8, (next / 128) as u8];
-    let chain = (1..257).flat_map(|next| node(5 * next));
-    chain.chain([0, 0]).collect()
-}
-
 /// A walk over S1 that has read four bytes, and is then lent three.
 fn shortened() -> Option<Refusal> {
     let mut walk = Rebases::new(S1, 8).expect("a start");
@@ -77,7 +69,7 @@ fn each_refusal_has_a_sample() {
             .find_map(Result::err),
         trie(&[], 9),
         trie(b"\x00\x01a\x00\x00", 9), // an edge to the root
-        trie(&deep(), 9),
+        trie(&chain(257), 9),
         trie(common::SHARED, 1),
         shortened(),
         flight(S1, &[0, 0, 39]),

@@ -3,6 +3,9 @@
 #![allow(dead_code)] // each test takes what it needs
 
 pub mod entries;
+pub mod lines;
+pub mod program;
+pub mod recorded;
 
 /// Type 1; segment 2 at offset 16; three pointers; Done. Of pointer size 8.
 pub const S1: &[u8] = &[0x11, 0x22, 0x10, 0x53, 0x00];
@@ -19,6 +22,37 @@ pub const S4: &[u8] = &[0x51];
 /// Two edges from the root, `ab` at 2 and `c` at 6, lead to one node at 9, with the flags 1 and the
 /// address 16.
 pub const SHARED: &[u8] = b"\x00\x02ab\x00\x09c\x00\x09\x02\x01\x10\x00";
+
+/// So many nodes of five bytes, each with one child at the end of an empty edge, the next one; the
+/// offset is spelled with two bytes. The last has no child, and exports 7.
+pub fn chain(nodes: usize) -> Vec<u8> {
+    let mut trie = Vec::new();
+    for next in (1..nodes).map(|node| 5 * node) {
+        let low = 0x80 | (next % 128) as u8;
+        trie.extend([0x00, 0x01, 0x00, low, (next / 128) as u8]);
+    }
+    trie.extend([0x02, 0x00, 0x07, 0x00]);
+    trie
+}
+
+/// A trie with one export, of the flags 0 and the address 5, whose name has so many bytes. Its edge
+/// begins at 2; behind the NUL the offset of the node takes three bytes.
+pub fn long_name(length: usize) -> Vec<u8> {
+    let node = 2 + length + 1 + 3;
+    let offset = [
+        0x80 | node as u8,
+        0x80 | (node >> 7) as u8,
+        (node >> 14) as u8,
+    ];
+    [
+        b"\x00\x01",
+        &vec![b'a'; length][..],
+        b"\0",
+        &offset,
+        b"\x02\x00\x05\x00",
+    ]
+    .concat()
+}
 
 pub fn u16s(values: &[u16]) -> Vec<u8> {
     values.iter().flat_map(|v| v.to_le_bytes()).collect()
@@ -59,11 +93,18 @@ pub fn record(format: u16, pages: u16, starts: &[u16]) -> Vec<u8> {
     .concat()
 }
 
-/// Chained fixups with one segment and no imports: the header; at 28 the starts, a count and one
-/// offset from 28; the segment's record at 28 + 8 = 36; its starts at 36 + 22 = 58.
-pub fn one_segment(format: u16, pages: u16, starts: &[u16]) -> Vec<u8> {
+/// Chained fixups without imports: the header; at 28 the starts, a count and the offsets of segments
+/// from 28; and behind them a record.
+pub fn with_starts(offsets: &[u32], record: &[u8]) -> Vec<u8> {
     let header = u32s(&[0, 28, 0, 0, 0, 1, 0]);
-    [header, u32s(&[1, 8]), record(format, pages, starts)].concat()
+    let count = u32s(&[offsets.len() as u32]);
+    [&header[..], &count, &u32s(offsets), record].concat()
+}
+
+/// Chained fixups with one segment and no imports: its record at 28 + 8 = 36; its starts at 36 + 22 =
+/// 58.
+pub fn one_segment(format: u16, pages: u16, starts: &[u16]) -> Vec<u8> {
+    with_starts(&[8], &record(format, pages, starts))
 }
 
 /// Chained fixups with imports and no segment: the header; at 28 the starts, a count of 0; at 32 the

@@ -1,0 +1,42 @@
+-- `dump::fixups::each` meets its contract. Assumes nothing.
+use Prim.Native.Nat.{_-_, _≤_}
+use mathlib.Core.Path.{_≡_}
+use lib.ListN.{length}
+use borrow.Author.Needs.{needs}
+use Rattle.dump.proofs.fixups.each.Statement.{statement}
+use Rattle.dump.proofs.fixups.each.Tie as tie
+
+abbrev Inv-loop : tie.InvT-loop
+Inv-loop s d max lines₀ w₀ out₀ listed₀ lines w out listed = (listed ≤ max) × (length lines ≡ length lines₀)
+
+abbrev μ-loop : tie.MeasureT-loop
+μ-loop s d max lines₀ w₀ out₀ listed₀ lines w out listed = max - listed
+
+pub each-spec : {M : Type 1} → statement M
+each-spec =
+    tie.close
+    (tie.spec
+    Inv-loop
+    μ-loop
+    (λ c κs. search needs)
+    (λ c. search needs)
+    (λ c κs. search needs)
+    (λ c. search needs)
+    (λ c κs. search needs)
+    (λ c. search needs)
+    (λ c. search needs)
+    (λ c. search needs)
+    (λ c κs. search needs)
+    (λ c. search needs)
+    (λ c. search needs)
+    (λ c. search needs)
+    (λ c κs. search needs)
+    (λ c. search needs)
+    (λ c. search needs)
+    (λ c. search needs)
+    (λ c κs. search needs)
+    (λ c κs. search needs)
+    (λ c. search needs)
+    (λ c. search needs)
+    (λ c. search needs)
+    (λ c. search needs))

@@ -1,0 +1,133 @@
+// Chained fixups: their segments, and their imports.
+use crate::closing;
+use crate::file::Loaded;
+use crate::file::load;
+use crate::line::Out;
+use crate::words::Words;
+use chains::Segment;
+use chains::SegmentStart;
+use chains::SegmentStep;
+use chains::SegmentWalk;
+use imports::Import;
+use imports::ImportStart;
+use imports::ImportStep;
+use imports::ImportWalk;
+use numbers::parts::part;
+use std::num::wrapping_sub_u64;
+
+pub(crate) fn list_segments(w: Words, room: &mut [u8]) {
+    if !w.are(2, b"segments FILE") {
+        return;
+    }
+    let Loaded::Bytes(n) = load(w.at[1], room, 0) else {
+        return;
+    };
+    let mut lines = io::buffer();
+    let out = segments(part(room, 0, n), w.max, &mut lines);
+    out.finish(&lines);
+}
+
+fn segments(s: &[u8], max: u64, lines: &mut [u8]) -> Out {
+    match SegmentWalk::start(s) {
+        SegmentStart::Begun(w) => each_segment(w, s, max, lines),
+        SegmentStart::Refused(e) => closing::refused(lines, Out::start(), e, 0, 0),
+    }
+}
+
+// The index of a refusal is that of the segment; its place is where the starts are.
+fn each_segment(start: SegmentWalk, s: &[u8], max: u64, lines: &mut [u8]) -> Out {
+    let mut w = start;
+    let mut out = Out::start();
+    let mut listed: u64 = 0;
+    while !out.broken {
+        match w.step(s) {
+            SegmentStep::Item(x, next) => {
+                if listed == max {
+                    return closing::cut(lines, out, listed);
+                }
+                listed += 1;
+                out = segment(lines, out, x);
+                w = next;
+            }
+            SegmentStep::End(_) => return closing::end(lines, out, listed),
+            SegmentStep::Refused(e, next) => {
+                let index = wrapping_sub_u64(next.index, 1);
+                return closing::refused(lines, out, e, next.place as u64, index);
+            }
+        }
+    }
+    out
+}
+
+fn segment(lines: &mut [u8], out: Out, x: Segment) -> Out {
+    let out = out.decimal(lines, b"segment ", 7, x.index);
+    let out = out.hex(lines, b"  offset ", 16, x.offset);
+    let out = out.decimal(lines, b"  format ", 5, x.format as u64);
+    paged(lines, out, x)
+}
+
+fn paged(lines: &mut [u8], out: Out, x: Segment) -> Out {
+    let out = out.hex(lines, b"  page ", 4, x.size as u64);
+    let out = out.decimal(lines, b"  pages ", 5, x.pages as u64);
+    let out = out.hex(lines, b"  limit ", 8, x.limit);
+    started(lines, out, x)
+}
+
+fn started(lines: &mut [u8], out: Out, x: Segment) -> Out {
+    let out = out.decimal(lines, b"  starts ", 7, x.count);
+    let out = out.decimal(lines, b"  place ", 7, x.place as u64);
+    out.byte(lines, b'\n')
+}
+
+pub(crate) fn list_imports(w: Words, room: &mut [u8]) {
+    if !w.are(2, b"imports FILE") {
+        return;
+    }
+    let Loaded::Bytes(n) = load(w.at[1], room, 0) else {
+        return;
+    };
+    let mut lines = io::buffer();
+    let out = imports(part(room, 0, n), w.max, &mut lines);
+    out.finish(&lines);
+}
+
+fn imports(s: &[u8], max: u64, lines: &mut [u8]) -> Out {
+    match ImportWalk::start(s) {
+        ImportStart::Begun(w) => each_import(w, s, max, lines),
+        ImportStart::Refused(e) => closing::refused(lines, Out::start(), e, 0, 0),
+    }
+}
+
+fn each_import(start: ImportWalk, s: &[u8], max: u64, lines: &mut [u8]) -> Out {
+    let mut w = start;
+    let mut out = Out::start();
+    let mut listed: u64 = 0;
+    while !out.broken {
+        match w.step(s) {
+            ImportStep::Item(x, next) => {
+                if listed == max {
+                    return closing::cut(lines, out, listed);
+                }
+                out = import(lines, out, listed, x, s);
+                listed += 1;
+                w = next;
+            }
+            ImportStep::End(_) => return closing::end(lines, out, listed),
+            ImportStep::Refused(e, stood) => {
+                return closing::refused(lines, out, e, stood.place as u64, listed);
+            }
+        }
+    }
+    out
+}
+
+fn import(lines: &mut [u8], out: Out, index: u64, x: Import, s: &[u8]) -> Out {
+    let out = imported(lines, out, index, x);
+    out.symbol(lines, x.addend, x.name(s))
+}
+
+fn imported(lines: &mut [u8], out: Out, index: u64, x: Import) -> Out {
+    let out = out.decimal(lines, b"import ", 7, index);
+    let out = out.library(lines, 5, x.library);
+    out.decimal(lines, b"  weak ", 1, packing::bit(x.weak))
+}

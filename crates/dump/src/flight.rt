@@ -1,0 +1,99 @@
+// Preflights: a stream is judged, and nothing of it is listed.
+ghost use Prim.Native.Nat.{_≤_};
+use crate::closing;
+use crate::file::Loaded;
+use crate::file::load;
+use crate::line::Out;
+use crate::streams::Kind;
+use crate::streams::kind_of;
+use crate::usage;
+use crate::words;
+use crate::words::PointerSize;
+use crate::words::Words;
+use numbers::parts::part;
+use numerals::Numeral;
+use preflight::Verdict;
+
+// One more than there may be, so that too many are refused by their number.
+const MOST: usize = 17;
+
+// How many sizes there are, and whether all of them are numbers.
+struct Sizes {
+    count: usize,
+    fit: bool,
+}
+
+pub(crate) fn judge(w: Words, room: &mut [u8]) {
+    if w.count < 5 {
+        usage::of(b"preflight rebase|bind|weak|lazy POINTER_SIZE FILE SIZE...");
+        return;
+    }
+    let kind = kind_of(w.at[1]);
+    match kind {
+        Kind::Unknown => usage::unfit(w.at[1], b"not a kind of stream; rebase, bind, weak or lazy"),
+        _ => judge_kind(kind, w, room),
+    }
+}
+
+fn judge_kind(kind: Kind, w: Words, room: &mut [u8]) {
+    let PointerSize::Bytes(size) = words::pointer_size(w.at[2]) else {
+        return;
+    };
+    let mut sizes = [0; MOST];
+    let gathered = gather(w, &mut sizes);
+    if !gathered.fit {
+        return;
+    }
+    let Loaded::Bytes(n) = load(w.at[3], room, 0) else {
+        return;
+    };
+    said(verdict(kind, part(room, 0, n), size, &sizes, gathered.count));
+}
+
+fn gather(w: Words, sizes: &mut [u64; MOST]) -> Sizes
+    ensures { λ r. ⌜ r .count ≤ 17 ⌝ }
+{
+    let mut count = 0;
+    while count < MOST && count + 4 < w.count {
+        let word = count + 4;
+        match words::number(w.at[word]) {
+            Numeral::Value(n) => {
+                sizes[count] = n;
+            }
+            Numeral::Not => {
+                return Sizes { count, fit: false };
+            }
+        }
+        count += 1;
+    }
+    Sizes { count, fit: true }
+}
+
+// By the first of the sizes.
+fn verdict(kind: Kind, s: &[u8], size: u8, sizes: &[u64; MOST], count: usize) -> Verdict
+    requires { ⌜ count ≤ 17 ⌝ }
+{
+    let all = &sizes[..];
+    let sizes = &all[0..count];
+    match kind {
+        Kind::Plain => preflight::plain_binds(s, size, sizes),
+        Kind::Weak => preflight::weak_binds(s, size, sizes),
+        Kind::Lazy => preflight::lazy_binds(s, size, sizes),
+        _ => preflight::rebases(s, size, sizes),
+    }
+}
+
+fn said(verdict: Verdict) {
+    let mut lines = io::buffer();
+    let out = told(verdict, &mut lines);
+    out.finish(&lines);
+}
+
+fn told(verdict: Verdict, lines: &mut [u8]) -> Out {
+    match verdict {
+        Verdict::Pass(operations) => closing::pass(lines, Out::start(), operations),
+        Verdict::Fault(e, position, index) => {
+            closing::refused(lines, Out::start(), e, position, index)
+        }
+    }
+}

@@ -1,0 +1,146 @@
+// Rebase and bind streams.
+use crate::closing;
+use crate::file::Loaded;
+use crate::file::load;
+use crate::line::Out;
+use crate::words;
+use crate::words::PointerSize;
+use crate::words::Words;
+use bind::Bind;
+use bind::BindStart;
+use bind::BindStep;
+use bind::BindWalk;
+use numbers::parts::part;
+use rebase::Rebase;
+use rebase::RebaseStart;
+use rebase::RebaseStep;
+use rebase::RebaseWalk;
+
+pub(crate) enum Kind {
+    Rebase,
+    Plain,
+    Weak,
+    Lazy,
+    Unknown,
+}
+
+// The kind of stream that an argument names.
+pub(crate) fn kind_of(i: usize) -> Kind {
+    if words::is(i, b"rebase") {
+        Kind::Rebase
+    } else if words::is(i, b"bind") {
+        Kind::Plain
+    } else if words::is(i, b"weak") {
+        Kind::Weak
+    } else if words::is(i, b"lazy") {
+        Kind::Lazy
+    } else {
+        Kind::Unknown
+    }
+}
+
+pub(crate) fn list(kind: Kind, w: Words, room: &mut [u8]) {
+    if !w.are(3, b"rebase|bind|weak|lazy POINTER_SIZE FILE") {
+        return;
+    }
+    let PointerSize::Bytes(size) = words::pointer_size(w.at[1]) else {
+        return;
+    };
+    let Loaded::Bytes(n) = load(w.at[2], room, 0) else {
+        return;
+    };
+    let mut lines = io::buffer();
+    let out = walk(kind, size, part(room, 0, n), w.max, &mut lines);
+    out.finish(&lines);
+}
+
+fn walk(kind: Kind, size: u8, s: &[u8], max: u64, lines: &mut [u8]) -> Out {
+    match kind {
+        Kind::Plain => binds(BindWalk::plain(size), s, max, lines),
+        Kind::Weak => binds(BindWalk::weak(size), s, max, lines),
+        Kind::Lazy => binds(BindWalk::lazy(size), s, max, lines),
+        _ => rebases(RebaseWalk::start(size), s, max, lines),
+    }
+}
+
+fn rebases(start: RebaseStart, s: &[u8], max: u64, lines: &mut [u8]) -> Out {
+    match start {
+        RebaseStart::Begun(w) => each_rebase(w, s, max, lines),
+        RebaseStart::Refused(e) => closing::refused(lines, Out::start(), e, 0, 0),
+    }
+}
+
+fn each_rebase(start: RebaseWalk, s: &[u8], max: u64, lines: &mut [u8]) -> Out {
+    let mut w = start;
+    let mut out = Out::start();
+    let mut listed: u64 = 0;
+    while !out.broken {
+        match w.step(s) {
+            RebaseStep::Item(x, next) => {
+                if listed == max {
+                    return closing::cut(lines, out, listed);
+                }
+                listed += 1;
+                out = rebase(lines, out, x);
+                w = next;
+            }
+            RebaseStep::End(_) => return closing::end(lines, out, listed),
+            RebaseStep::Refused(e, stood) => {
+                return closing::refused(lines, out, e, stood.cursor.at as u64, listed);
+            }
+        }
+    }
+    out
+}
+
+fn rebase(lines: &mut [u8], out: Out, x: Rebase) -> Out {
+    let out = place(lines, out, b"rebase  segment ", x.segment, x.offset, x.kind);
+    out.byte(lines, b'\n')
+}
+
+fn binds(start: BindStart, s: &[u8], max: u64, lines: &mut [u8]) -> Out {
+    match start {
+        BindStart::Begun(w) => each_bind(w, s, max, lines),
+        BindStart::Refused(e) => closing::refused(lines, Out::start(), e, 0, 0),
+    }
+}
+
+fn each_bind(start: BindWalk, s: &[u8], max: u64, lines: &mut [u8]) -> Out {
+    let mut w = start;
+    let mut out = Out::start();
+    let mut listed: u64 = 0;
+    while !out.broken {
+        match w.step(s) {
+            BindStep::Item(x, next) => {
+                if listed == max {
+                    return closing::cut(lines, out, listed);
+                }
+                listed += 1;
+                out = bind(lines, out, x, s);
+                w = next;
+            }
+            BindStep::End(_) => return closing::end(lines, out, listed),
+            BindStep::Refused(e, stood) => {
+                return closing::refused(lines, out, e, stood.cursor.at as u64, listed);
+            }
+        }
+    }
+    out
+}
+
+fn bind(lines: &mut [u8], out: Out, x: Bind, s: &[u8]) -> Out {
+    let out = bound(lines, out, x);
+    out.symbol(lines, x.addend, x.name(s))
+}
+
+fn bound(lines: &mut [u8], out: Out, x: Bind) -> Out {
+    let out = place(lines, out, b"bind  segment ", x.segment, x.offset, x.kind);
+    let out = out.library(lines, 10, x.library);
+    out.hex(lines, b"  flags ", 1, x.flags as u64)
+}
+
+fn place(lines: &mut [u8], out: Out, what: &[u8], segment: u8, offset: u64, kind: u8) -> Out {
+    let out = out.decimal(lines, what, 2, segment as u64);
+    let out = out.hex(lines, b"  offset ", 16, offset);
+    out.decimal(lines, b"  type ", 2, kind as u64)
+}
