@@ -35,7 +35,7 @@ pub(crate) fn load(i: usize, room: &mut [u8], from: usize) -> Loaded {
         Filled::Full => {
             usage::unfit(
                 i,
-                b"too large; the files of a command have less than 7 MiB in all",
+                b"larger than the room; the files of a command have less than 7 MiB in all",
             );
             Loaded::Not
         }
