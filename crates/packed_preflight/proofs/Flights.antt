@@ -1,21 +1,18 @@
--- Sizes read one by one, and a preflight of them. Assumes nothing.
-use Prim.Native.Nat.{ℕ, suc, _+_, _-_, _/_, _%_, _≤_, _<_}
-use mathlib.Core.Path.{_≡_, refl, sym, ap, _∙_, subst}
+-- A preflight of the sizes that are read. Assumes nothing.
+use Prim.Native.Nat.{ℕ, _-_, _/_, _%_, _≤_, _<_}
+use mathlib.Core.Path.{_≡_, sym, ap, _∙_}
 use mathlib.Core.Bool.{cond}
-use mathlib.Core.List.{List, [], _∷_, _++_}
+use mathlib.Core.List.{List}
 use native.Mathlib.Decide.{decLt}
-use native.Mathlib.Numerals.{add-one}
 use native.Mathlib.Omega.{arith}
 use borrow.Author.Tests.{lt-ltb, le-ltb, le-leb, lt-leb, eq-eqb, ne-eqb}
-use lib.Dec.{eqb}
-use lib.ListN.{length, take, set, length-set}
-use lib.Seq.{take-suc-set}
+use lib.ListN.{length, take}
 use Rattle.cursor.specs.Cursor.{isPointerSize}
 use Rattle.listing.proofs.Starts.{no-size}
 use Rattle.listing.specs.Machine.{Machine}
 use Rattle.packing.specs.Boundary.{unfit}
-use Rattle.packing.proofs.Words.{words-more, length-words}
-use Rattle.packing.specs.Words.{wordAt, wordsFrom}
+use Rattle.packing.proofs.Words.{length-words}
+use Rattle.packing.specs.Words.{wordsFrom}
 use Rattle.packed_preflight.specs.Packed.{sizesOf, verdictTold, flown, narrow, fewer}
 use Rattle.preflight.specs.Told.{told}
 use Rattle.preflight.specs.declared.Verdict as code
@@ -23,47 +20,8 @@ use Rattle.preflight.specs.Verdict.{Verdict, fault, withSizes, preflight}
 use Rattle.refusal.specs.Numbers.{numberOf}
 use Rattle.refusal.specs.declared.Refusal.the-variants.{PointerSize, UnfitSizes}
 
--- ---- read one by one
-
--- the first i of so many are read
-pub record Reading (s : List ℕ) (count : ℕ) (words : List ℕ) (i : ℕ) : Type 0 where
-  pub long : length words ≡ 17
-  pub few : count ≤ 17
-  pub upto : i ≤ count
-  pub read : take i words ≡ wordsFrom s 0 i
-
-fewer-least : (n : ℕ) {count : ℕ} → count ≡ fewer n → count ≤ 17
+pub fewer-least : (n : ℕ) {count : ℕ} → count ≡ fewer n → count ≤ 17
 fewer-least n e = rw e (elim (decLt n 17) [ yes h ↦ rw (lt-ltb n 17 h) (omega arith) | no h ↦ rw (le-ltb n 17 (omega arith)) (omega arith) ])
-
-module _ (s words : List ℕ) where
-  pub reads-none : (n : ℕ) {count : ℕ} → count ≡ fewer n → length words ≡ 17 → Reading s count words 0
-  unfolding wordsFrom
-  reads-none n e l = record { long = l; few = fewer-least n e; upto = omega arith; read = refl }
-
-  module _ {count i : ℕ} (r : Reading s count words i) where
-    pub reads-on : {x : ℕ} → i < count → x ≡ wordAt s i → Reading s count (set words i x) (i + 1)
-    reads-on {x} h e =
-        let z : 0 + i ≡ i = omega arith in
-        record {
-          long = length-set words i x ∙ r .long;
-          few = r .few;
-          upto = omega arith;
-          read =
-              ap (λ (k : ℕ). take k (set words i x)) (add-one i)
-              ∙ take-suc-set words i x (omega (arith, r .long, r .few))
-              ∙ (λ j. r .read j ++ (e j ∷ []))
-              ∙ ap (λ (k : ℕ). wordsFrom s 0 i ++ (wordAt s k ∷ [])) (sym z)
-              ∙ sym (words-more s 0 i)
-              ∙ ap (wordsFrom s 0) (sym (add-one i));
-        }
-
-    pub reads-fit : count ≤ length words
-    reads-fit = omega (arith, r .long, r .few)
-
-    pub reads-all : count ≤ i → take count words ≡ wordsFrom s 0 count
-    reads-all h = let z : i ≡ count = omega (arith, r .upto) in subst (λ (k : ℕ). take k words ≡ wordsFrom s 0 k) z (r .read)
-
--- ---- a preflight
 
 module _ (M : Machine) (start : M .Reg) (size : ℕ) (s : List ℕ) where
   narrowed : (zs : List ℕ) → preflight M start (narrow size) zs s ≡ preflight M start size zs s

@@ -4,7 +4,6 @@ use mathlib.Core.Path.{_≡_, sym, ap, _∙_}
 use mathlib.Core.Bool.{Bool, true, false, cond}
 use mathlib.Core.List.{List}
 use borrow.Author.Tests.{eq-eqb, ne-eqb}
-use lib.Dec.{eqb}
 use lib.ListN.{length}
 use Rattle.packing.specs.Boundary.{States, Items, unfit, startTold, started, stepTold, stepped}
 use Rattle.packing.specs.Words.{bytesOf, written}

@@ -3,3 +3,4 @@ pub mod Fields
 pub mod Boundary
 pub mod Signs
 pub mod Back
+pub mod Reading

@@ -1,6 +1,5 @@
 -- `numerals::read` meets its contract. Assumes nothing.
 use Rattle.numerals.proofs.Prefixes.{longer, hexadecimal, none, decimal}
-use native.Mathlib.Omega.{arith}
 use borrow.Author.Needs.{needs}
 use Rattle.numerals.proofs.read.Statement.{statement}
 use Rattle.numerals.proofs.read.Tie as tie

@@ -1,12 +1,12 @@
 -- `packed_trie::fill` meets its contract. Assumes nothing.
 use Prim.Native.Nat.{_-_}
-use Rattle.packed_trie.proofs.Turns.{Reading, reads-none, reads-on, reads-all}
+use Rattle.packing.proofs.Reading.{Reading, reads-none, reads-on, reads-whole}
 use borrow.Author.Needs.{needs}
 use Rattle.packed_trie.proofs.fill.Statement.{statement}
 use Rattle.packed_trie.proofs.fill.Tie as tie
 
 abbrev Inv-loop : tie.InvT-loop
-Inv-loop s first words₀ i₀ words i = Reading s first words i
+Inv-loop s first words₀ i₀ words i = Reading 256 s first 256 words i
 
 abbrev μ-loop : tie.MeasureT-loop
 μ-loop s first words₀ i₀ words i = 256 - i
@@ -25,4 +25,4 @@ fill-spec =
     (λ c. search needs)
     (λ c. search needs)
     (λ c. search (reads-on, needs))
-    (λ c. search (reads-all, needs)))
+    (λ c. search (reads-whole, needs)))
