@@ -45,6 +45,9 @@ fn each_refusal_has_its_number_and_words() {
     ];
     for (number, command, files) in samples {
         let (place, index) = match number {
+            6 => (2, 0), // where its operation starts
+            7 => (3, 0),
+            8 => (4, 0),
             14 => (32, 0), // where its record is
             20 => (3, 2),  // as in P1
             _ => (0, 0),
@@ -107,14 +110,13 @@ fn each_kind_of_stream_has_its_preflight() {
 // ---- where a walk is refused
 
 #[test]
-fn a_stream_is_refused_where_the_call_began_to_read() {
-    // 90 is no operation of a rebase stream. In S1 for Done, behind three places:
+fn a_stream_is_refused_where_its_operation_starts() {
+    // 90 is no operation of a rebase stream: in S1 for Done, behind three places, and before any place.
     let text = S1_LINES.to_string() + &refused(2, 4, 3);
     assert_eq!(listed("rebase 8 FILE", &[b"\x11\x22\x10\x53\x90"]), text);
-    // Before any place, all is read by one call.
     assert_eq!(
         listed("rebase 8 FILE", &[b"\x11\x22\x10\x90"]),
-        refused(2, 0, 0)
+        refused(2, 3, 0)
     );
 }
 
@@ -123,7 +125,21 @@ fn a_bind_stream_is_refused_likewise() {
     // Threaded binds, d0, are refused: behind S2, and before any place.
     let text = S2_LINE.to_string() + &refused(2, 9, 1);
     assert_eq!(listed("bind 8 FILE", &[&[S2, b"\xd0"].concat()]), text);
-    assert_eq!(listed("bind 8 FILE", &[b"\x11\x51\xd0"]), refused(2, 0, 0));
+    assert_eq!(listed("bind 8 FILE", &[b"\x11\x51\xd0"]), refused(2, 2, 0));
+    // The place of a plain stream lacks a type, at byte 5; that of a lazy one a library.
+    let stream = b"\x40a\0\x72\x08\x90";
+    assert_eq!(listed("bind 8 FILE", &[stream]), refused(6, 5, 0));
+    assert_eq!(listed("lazy 8 FILE", &[stream]), refused(7, 5, 0));
+}
+
+#[test]
+fn behind_a_place_beyond_all_segments_it_is_where_the_walk_stood() {
+    // Type 1; segment 0 at 2^63; one place; and at byte 13, where the next call begins to read, type 0, and
+    // then 90, which is no operation.
+    let stream = b"\x11\x20\x80\x80\x80\x80\x80\x80\x80\x80\x80\x01\x51\x10\x90";
+    let first = "rebase  segment  0  offset 0x8000000000000000  type  1\n";
+    let text = first.to_string() + &refused(2, 13, 1);
+    assert_eq!(listed("rebase 8 FILE", &[stream]), text);
 }
 
 #[test]

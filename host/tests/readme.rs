@@ -32,7 +32,9 @@ fn the_sample_is_the_one_that_is_run() {
     let [kind, size, file] = words[..] else {
         panic!("three words: {words:?}");
     };
-    assert!(README.contains(&format!("\n    ./dump {kind} {size} crates/dump/data/{file} ")));
+    assert!(README.contains(&format!(
+        "\n    ./dump {kind} {size} crates/dump/data/{file} "
+    )));
 }
 
 #[test]
@@ -40,7 +42,10 @@ fn the_usage_is_the_programs() {
     let usage = run(&[]).err;
     let commands: String = usage
         .lines()
-        .filter_map(|line| line.strip_prefix("usage: ").or(line.strip_prefix("       ")))
+        .filter_map(|line| {
+            line.strip_prefix("usage: ")
+                .or(line.strip_prefix("       "))
+        })
         .map(|line| format!("{line}\n"))
         .collect();
     assert_eq!(commands.lines().count(), 6, "{usage}");

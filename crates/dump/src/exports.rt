@@ -97,7 +97,7 @@ fn targeted(lines: &mut [u8], out: Out, target: ExportData) -> Out {
 // Of a symbol that is taken from another library, the name that it has there.
 fn imported(lines: &mut [u8], out: Out, target: ExportData, s: &[u8]) -> Out {
     match target {
-        ExportData::Reexport(import) => { out.quoted(lines, b"  import ", import.name(s)) }
+        ExportData::Reexport(import) => out.quoted(lines, b"  import ", import.name(s)),
         _ => out,
     }
 }

@@ -13,9 +13,20 @@ use crate::words::Words;
 use numbers::parts::part;
 use numerals::Numeral;
 use preflight::Verdict;
+use refusal::Refusal;
 
 // One more than there may be, so that too many are refused by their number.
 const MOST: usize = 17;
+
+// Sizes that no place of an image comes near.
+const WIDE: [u64; MOST] = [0x4000_0000_0000_0000; MOST];
+
+// The first fault of a stream, by the number of its refusal, which is 0 where there is none; and the byte
+// where its operation starts.
+pub(crate) struct Fault {
+    number: u8,
+    position: u64,
+}
 
 // How many sizes there are, and whether all of them are numbers.
 struct Sizes {
@@ -67,6 +78,31 @@ fn gather(w: Words, sizes: &mut [u64; MOST]) -> Sizes
         count += 1;
     }
     Sizes { count, fit: true }
+}
+
+// The first fault where every segment has 2^62 bytes.
+pub(crate) fn first_fault(kind: Kind, s: &[u8], size: u8) -> Fault {
+    match verdict(kind, s, size, &WIDE, 16) {
+        Verdict::Pass(_) => Fault {
+            number: 0,
+            position: 0,
+        },
+        Verdict::Fault(e, position, _) => Fault {
+            number: e.number(),
+            position,
+        },
+    }
+}
+
+impl Fault {
+    // Where a refusal of the walk is. The fault is that refusal, or else a place that is outside; then all that is
+    // known is where the walk stood.
+    pub(crate) fn place(self, e: Refusal, stood: usize) -> u64 {
+        if self.number == e.number() {
+            return self.position;
+        }
+        stood as u64
+    }
 }
 
 // By the first of the sizes.

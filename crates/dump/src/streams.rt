@@ -2,6 +2,8 @@
 use crate::closing;
 use crate::file::Loaded;
 use crate::file::load;
+use crate::flight;
+use crate::flight::Fault;
 use crate::line::Out;
 use crate::words;
 use crate::words::PointerSize;
@@ -55,22 +57,23 @@ pub(crate) fn list(kind: Kind, w: Words, room: &mut [u8]) {
 }
 
 fn walk(kind: Kind, size: u8, s: &[u8], max: u64, lines: &mut [u8]) -> Out {
+    let fault = flight::first_fault(kind, s, size);
     match kind {
-        Kind::Plain => binds(BindWalk::plain(size), s, max, lines),
-        Kind::Weak => binds(BindWalk::weak(size), s, max, lines),
-        Kind::Lazy => binds(BindWalk::lazy(size), s, max, lines),
-        _ => rebases(RebaseWalk::start(size), s, max, lines),
+        Kind::Plain => binds(BindWalk::plain(size), s, max, fault, lines),
+        Kind::Weak => binds(BindWalk::weak(size), s, max, fault, lines),
+        Kind::Lazy => binds(BindWalk::lazy(size), s, max, fault, lines),
+        _ => rebases(RebaseWalk::start(size), s, max, fault, lines),
     }
 }
 
-fn rebases(start: RebaseStart, s: &[u8], max: u64, lines: &mut [u8]) -> Out {
+fn rebases(start: RebaseStart, s: &[u8], max: u64, fault: Fault, lines: &mut [u8]) -> Out {
     match start {
-        RebaseStart::Begun(w) => each_rebase(w, s, max, lines),
+        RebaseStart::Begun(w) => each_rebase(w, s, max, fault, lines),
         RebaseStart::Refused(e) => closing::refused(lines, Out::start(), e, 0, 0),
     }
 }
 
-fn each_rebase(start: RebaseWalk, s: &[u8], max: u64, lines: &mut [u8]) -> Out {
+fn each_rebase(start: RebaseWalk, s: &[u8], max: u64, fault: Fault, lines: &mut [u8]) -> Out {
     let mut w = start;
     let mut out = Out::start();
     let mut listed: u64 = 0;
@@ -86,7 +89,8 @@ fn each_rebase(start: RebaseWalk, s: &[u8], max: u64, lines: &mut [u8]) -> Out {
             }
             RebaseStep::End(_) => return closing::end(lines, out, listed),
             RebaseStep::Refused(e, stood) => {
-                return closing::refused(lines, out, e, stood.cursor.at as u64, listed);
+                let place = fault.place(e, stood.cursor.at);
+                return closing::refused(lines, out, e, place, listed);
             }
         }
     }
@@ -98,14 +102,14 @@ fn rebase(lines: &mut [u8], out: Out, x: Rebase) -> Out {
     out.byte(lines, b'\n')
 }
 
-fn binds(start: BindStart, s: &[u8], max: u64, lines: &mut [u8]) -> Out {
+fn binds(start: BindStart, s: &[u8], max: u64, fault: Fault, lines: &mut [u8]) -> Out {
     match start {
-        BindStart::Begun(w) => each_bind(w, s, max, lines),
+        BindStart::Begun(w) => each_bind(w, s, max, fault, lines),
         BindStart::Refused(e) => closing::refused(lines, Out::start(), e, 0, 0),
     }
 }
 
-fn each_bind(start: BindWalk, s: &[u8], max: u64, lines: &mut [u8]) -> Out {
+fn each_bind(start: BindWalk, s: &[u8], max: u64, fault: Fault, lines: &mut [u8]) -> Out {
     let mut w = start;
     let mut out = Out::start();
     let mut listed: u64 = 0;
@@ -121,7 +125,8 @@ fn each_bind(start: BindWalk, s: &[u8], max: u64, lines: &mut [u8]) -> Out {
             }
             BindStep::End(_) => return closing::end(lines, out, listed),
             BindStep::Refused(e, stood) => {
-                return closing::refused(lines, out, e, stood.cursor.at as u64, listed);
+                let place = fault.place(e, stood.cursor.at);
+                return closing::refused(lines, out, e, place, listed);
             }
         }
     }
