@@ -1,5 +1,8 @@
 // Chained fixups: their segments, and their imports.
-use crate::closing;
+use crate::closing::Ending;
+use crate::closing::List;
+use crate::closing::close;
+use crate::closing::listed;
 use crate::file::Loaded;
 use crate::file::load;
 use crate::line::Out;
@@ -23,40 +26,40 @@ pub(crate) fn list_segments(w: Words, room: &mut [u8]) {
         return;
     };
     let mut lines = io::buffer();
-    let out = segments(part(room, 0, n), w.max, &mut lines);
-    out.finish(&lines);
+    let list = segments(part(room, 0, n), w.max, &mut lines);
+    close(&mut lines, list);
 }
 
-fn segments(s: &[u8], max: u64, lines: &mut [u8]) -> Out {
+fn segments(s: &[u8], max: u64, lines: &mut [u8]) -> List {
     match SegmentWalk::start(s) {
         SegmentStart::Begun(w) => each_segment(w, s, max, lines),
-        SegmentStart::Refused(e) => closing::refused(lines, Out::start(), e, 0, 0),
+        SegmentStart::Refused(e) => listed(Out::start(), 0, Ending::Refused(e, 0, 0)),
     }
 }
 
 // The index of a refusal is that of the segment; its place is where the starts are.
-fn each_segment(start: SegmentWalk, s: &[u8], max: u64, lines: &mut [u8]) -> Out {
+fn each_segment(start: SegmentWalk, s: &[u8], max: u64, lines: &mut [u8]) -> List {
     let mut w = start;
     let mut out = Out::start();
-    let mut listed: u64 = 0;
+    let mut count: u64 = 0;
     while !out.broken {
         match w.step(s) {
             SegmentStep::Item(x, next) => {
-                if listed == max {
-                    return closing::cut(lines, out, listed);
+                if count == max {
+                    return listed(out, count, Ending::Cut);
                 }
-                listed += 1;
+                count += 1;
                 out = segment(lines, out, x);
                 w = next;
             }
-            SegmentStep::End(_) => return closing::end(lines, out, listed),
+            SegmentStep::End(_) => return listed(out, count, Ending::End),
             SegmentStep::Refused(e, next) => {
                 let index = wrapping_sub_u64(next.index, 1);
-                return closing::refused(lines, out, e, next.place as u64, index);
+                return listed(out, count, Ending::Refused(e, next.place as u64, index));
             }
         }
     }
-    out
+    listed(out, count, Ending::Cut)
 }
 
 fn segment(lines: &mut [u8], out: Out, x: Segment) -> Out {
@@ -87,38 +90,38 @@ pub(crate) fn list_imports(w: Words, room: &mut [u8]) {
         return;
     };
     let mut lines = io::buffer();
-    let out = imports(part(room, 0, n), w.max, &mut lines);
-    out.finish(&lines);
+    let list = imports(part(room, 0, n), w.max, &mut lines);
+    close(&mut lines, list);
 }
 
-fn imports(s: &[u8], max: u64, lines: &mut [u8]) -> Out {
+fn imports(s: &[u8], max: u64, lines: &mut [u8]) -> List {
     match ImportWalk::start(s) {
         ImportStart::Begun(w) => each_import(w, s, max, lines),
-        ImportStart::Refused(e) => closing::refused(lines, Out::start(), e, 0, 0),
+        ImportStart::Refused(e) => listed(Out::start(), 0, Ending::Refused(e, 0, 0)),
     }
 }
 
-fn each_import(start: ImportWalk, s: &[u8], max: u64, lines: &mut [u8]) -> Out {
+fn each_import(start: ImportWalk, s: &[u8], max: u64, lines: &mut [u8]) -> List {
     let mut w = start;
     let mut out = Out::start();
-    let mut listed: u64 = 0;
+    let mut count: u64 = 0;
     while !out.broken {
         match w.step(s) {
             ImportStep::Item(x, next) => {
-                if listed == max {
-                    return closing::cut(lines, out, listed);
+                if count == max {
+                    return listed(out, count, Ending::Cut);
                 }
-                out = import(lines, out, listed, x, s);
-                listed += 1;
+                out = import(lines, out, count, x, s);
+                count += 1;
                 w = next;
             }
-            ImportStep::End(_) => return closing::end(lines, out, listed),
+            ImportStep::End(_) => return listed(out, count, Ending::End),
             ImportStep::Refused(e, stood) => {
-                return closing::refused(lines, out, e, stood.place as u64, listed);
+                return listed(out, count, Ending::Refused(e, stood.place as u64, count));
             }
         }
     }
-    out
+    listed(out, count, Ending::Cut)
 }
 
 fn import(lines: &mut [u8], out: Out, index: u64, x: Import, s: &[u8]) -> Out {

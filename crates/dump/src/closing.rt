@@ -28,30 +28,48 @@ const NAMES: [[u8; 19]; 21] = [
     *b"unfit sizes        ",
 ];
 
-pub(crate) fn end(lines: &mut [u8], out: Out, listed: u64) -> Out {
-    counted(lines, out, b"end  items ", listed)
+// How a list ends: all is listed; there is more; nothing is listed, and the preflight passes; or a refusal, with its
+// place and index.
+pub(crate) enum Ending {
+    End,
+    Cut,
+    Pass,
+    Refused(Refusal, u64, u64),
 }
 
-// There is more.
-pub(crate) fn cut(lines: &mut [u8], out: Out, listed: u64) -> Out {
-    counted(lines, out, b"cut  items ", listed)
+// A list but for its last line: what waits to be written, the number that the line tells, and its ending.
+pub(crate) struct List {
+    out: Out,
+    count: u64,
+    ending: Ending,
 }
 
-pub(crate) fn pass(lines: &mut [u8], out: Out, operations: u64) -> Out {
-    counted(lines, out, b"pass  operations ", operations)
+pub(crate) fn listed(out: Out, count: u64, ending: Ending) -> List {
+    List { out, count, ending }
 }
 
-fn counted(lines: &mut [u8], out: Out, what: &[u8], n: u64) -> Out {
+// The last line, and then all is written.
+pub(crate) fn close(lines: &mut [u8], list: List) {
+    let ending = list.ending;
+    match ending {
+        Ending::End => counted(lines, list.out, b"end  items ", list.count),
+        Ending::Cut => counted(lines, list.out, b"cut  items ", list.count),
+        Ending::Pass => counted(lines, list.out, b"pass  operations ", list.count),
+        Ending::Refused(e, place, index) => refused(lines, list.out, e, place, index),
+    }
+}
+
+fn counted(lines: &mut [u8], out: Out, what: &[u8], n: u64) {
     let out = out.decimal(lines, what, 0, n);
-    out.byte(lines, b'\n')
+    out.byte(lines, b'\n').finish(lines);
 }
 
-pub(crate) fn refused(lines: &mut [u8], out: Out, e: Refusal, place: u64, index: u64) -> Out {
+fn refused(lines: &mut [u8], out: Out, e: Refusal, place: u64, index: u64) {
     let out = out.decimal(lines, b"refused  number ", 0, e.number() as u64);
     let out = out.decimal(lines, b"  place ", 0, place);
     let out = out.decimal(lines, b"  index ", 0, index);
     let out = named(lines, out, e.number());
-    out.byte(lines, b'\n')
+    out.byte(lines, b'\n').finish(lines);
 }
 
 fn named(lines: &mut [u8], out: Out, number: u8) -> Out {

@@ -1,5 +1,8 @@
 // The exports trie.
-use crate::closing;
+use crate::closing::Ending;
+use crate::closing::List;
+use crate::closing::close;
+use crate::closing::listed;
 use crate::file::Loaded;
 use crate::file::load;
 use crate::line::Out;
@@ -23,34 +26,34 @@ pub(crate) fn list(w: Words, room: &mut [u8]) {
     };
     let mut lines = io::buffer();
     let mut name = io::large_buffer();
-    let out = each(part(room, 0, n), &mut name, w.max, &mut lines);
-    out.finish(&lines);
+    let list = each(part(room, 0, n), &mut name, w.max, &mut lines);
+    close(&mut lines, list);
 }
 
-fn each(s: &[u8], name: &mut [u8], max: u64, lines: &mut [u8]) -> Out {
+fn each(s: &[u8], name: &mut [u8], max: u64, lines: &mut [u8]) -> List {
     let mut w = TrieWalk::start();
     let mut out = Out::start();
-    let mut listed: u64 = 0;
+    let mut count: u64 = 0;
     while !out.broken {
         let told = w.step(s, name, NODES);
         let answer = told.answer;
         w = told.walk;
         match answer {
             TrieAnswer::Export { length, export } => {
-                if listed == max {
-                    return closing::cut(lines, out, listed);
+                if count == max {
+                    return listed(out, count, Ending::Cut);
                 }
-                listed += 1;
+                count += 1;
                 out = exported(lines, out, export, part(name, 0, length as usize), s);
             }
-            TrieAnswer::More => return closing::cut(lines, out, listed),
-            TrieAnswer::End => return closing::end(lines, out, listed),
+            TrieAnswer::More => return listed(out, count, Ending::Cut),
+            TrieAnswer::End => return listed(out, count, Ending::End),
             TrieAnswer::Refused(e) => {
-                return closing::refused(lines, out, e, place(w), listed);
+                return listed(out, count, Ending::Refused(e, place(w), count));
             }
         }
     }
-    out
+    listed(out, count, Ending::Cut)
 }
 
 // Where the next edge of the innermost open node is. Nodes that have none left are no longer open.

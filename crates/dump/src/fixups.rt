@@ -1,5 +1,8 @@
 // Chained fixups: those of one segment.
-use crate::closing;
+use crate::closing::Ending;
+use crate::closing::List;
+use crate::closing::close;
+use crate::closing::listed;
 use crate::file::Loaded;
 use crate::file::load;
 use crate::line::Out;
@@ -47,9 +50,18 @@ pub(crate) fn list(w: Words, room: &mut [u8]) {
 }
 
 fn list_of(s: &[u8], d: &[u8], index: u64, base: u64, w: Words) {
+    let mut lines = io::buffer();
     match find(s, index) {
-        Found::Record(g) => patched(PageWalk::start(s, g, base), s, d, w.max),
-        Found::Refused(e, place, at) => refused(e, place, at),
+        Found::Record(g) => {
+            let list = patches(PageWalk::start(s, g, base), s, d, w.max, &mut lines);
+            close(&mut lines, list);
+        }
+        Found::Refused(e, place, at) => {
+            close(
+                &mut lines,
+                listed(Out::start(), 0, Ending::Refused(e, place, at)),
+            );
+        }
         Found::Not => usage::unfit(w.at[2], b"no segment of this index has fixups"),
     }
 }
@@ -86,44 +98,34 @@ fn find_from(start: SegmentWalk, s: &[u8], index: u64) -> Found {
     Found::Not
 }
 
-fn refused(e: Refusal, place: u64, index: u64) {
-    let mut lines = io::buffer();
-    let out = closing::refused(&mut lines, Out::start(), e, place, index);
-    out.finish(&lines);
-}
-
-fn patched(start: PageStart, s: &[u8], d: &[u8], max: u64) {
-    let mut lines = io::buffer();
+fn patches(start: PageStart, s: &[u8], d: &[u8], max: u64, lines: &mut [u8]) -> List {
     match start {
-        PageStart::Begun(w) => {
-            let out = each(w, s, d, max, &mut lines);
-            out.finish(&lines);
-        }
-        PageStart::Refused(e) => refused(e, 0, 0),
+        PageStart::Begun(w) => each(w, s, d, max, lines),
+        PageStart::Refused(e) => listed(Out::start(), 0, Ending::Refused(e, 0, 0)),
     }
 }
 
-fn each(start: PageWalk, s: &[u8], d: &[u8], max: u64, lines: &mut [u8]) -> Out {
+fn each(start: PageWalk, s: &[u8], d: &[u8], max: u64, lines: &mut [u8]) -> List {
     let mut w = start;
     let mut out = Out::start();
-    let mut listed: u64 = 0;
+    let mut count: u64 = 0;
     while !out.broken {
         match w.step(s, d) {
             PageStep::Item(x, next) => {
-                if listed == max {
-                    return closing::cut(lines, out, listed);
+                if count == max {
+                    return listed(out, count, Ending::Cut);
                 }
-                listed += 1;
+                count += 1;
                 out = fixup(lines, out, x);
                 w = next;
             }
-            PageStep::End(_) => return closing::end(lines, out, listed),
+            PageStep::End(_) => return listed(out, count, Ending::End),
             PageStep::Refused(e, stood) => {
-                return closing::refused(lines, out, e, place(stood), listed);
+                return listed(out, count, Ending::Refused(e, place(stood), count));
             }
         }
     }
-    out
+    listed(out, count, Ending::Cut)
 }
 
 // Where the pointer is that was due, or else the page that was the last to be looked at.

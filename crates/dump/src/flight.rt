@@ -1,6 +1,9 @@
 // Preflights: a stream is judged, and nothing of it is listed.
 ghost use Prim.Native.Nat.{_≤_};
-use crate::closing;
+use crate::closing::Ending;
+use crate::closing::List;
+use crate::closing::close;
+use crate::closing::listed;
 use crate::file::Loaded;
 use crate::file::load;
 use crate::line::Out;
@@ -58,7 +61,8 @@ fn judge_kind(kind: Kind, w: Words, room: &mut [u8]) {
     let Loaded::Bytes(n) = load(w.at[3], room, 0) else {
         return;
     };
-    said(verdict(kind, part(room, 0, n), size, &sizes, gathered.count));
+    let verdict = verdict(kind, part(room, 0, n), size, &sizes, gathered.count);
+    close(&mut io::buffer(), told(verdict));
 }
 
 fn gather(w: Words, sizes: &mut [u64; MOST]) -> Sizes
@@ -119,17 +123,11 @@ fn verdict(kind: Kind, s: &[u8], size: u8, sizes: &[u64; MOST], count: usize) ->
     }
 }
 
-fn said(verdict: Verdict) {
-    let mut lines = io::buffer();
-    let out = told(verdict, &mut lines);
-    out.finish(&lines);
-}
-
-fn told(verdict: Verdict, lines: &mut [u8]) -> Out {
+fn told(verdict: Verdict) -> List {
     match verdict {
-        Verdict::Pass(operations) => closing::pass(lines, Out::start(), operations),
+        Verdict::Pass(operations) => listed(Out::start(), operations, Ending::Pass),
         Verdict::Fault(e, position, index) => {
-            closing::refused(lines, Out::start(), e, position, index)
+            listed(Out::start(), 0, Ending::Refused(e, position, index))
         }
     }
 }

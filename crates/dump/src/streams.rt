@@ -1,5 +1,8 @@
 // Rebase and bind streams.
-use crate::closing;
+use crate::closing::Ending;
+use crate::closing::List;
+use crate::closing::close;
+use crate::closing::listed;
 use crate::file::Loaded;
 use crate::file::load;
 use crate::flight;
@@ -52,11 +55,11 @@ pub(crate) fn list(kind: Kind, w: Words, room: &mut [u8]) {
         return;
     };
     let mut lines = io::buffer();
-    let out = walk(kind, size, part(room, 0, n), w.max, &mut lines);
-    out.finish(&lines);
+    let list = walk(kind, size, part(room, 0, n), w.max, &mut lines);
+    close(&mut lines, list);
 }
 
-fn walk(kind: Kind, size: u8, s: &[u8], max: u64, lines: &mut [u8]) -> Out {
+fn walk(kind: Kind, size: u8, s: &[u8], max: u64, lines: &mut [u8]) -> List {
     let fault = flight::first_fault(kind, s, size);
     match kind {
         Kind::Plain => binds(BindWalk::plain(size), s, max, fault, lines),
@@ -66,35 +69,35 @@ fn walk(kind: Kind, size: u8, s: &[u8], max: u64, lines: &mut [u8]) -> Out {
     }
 }
 
-fn rebases(start: RebaseStart, s: &[u8], max: u64, fault: Fault, lines: &mut [u8]) -> Out {
+fn rebases(start: RebaseStart, s: &[u8], max: u64, fault: Fault, lines: &mut [u8]) -> List {
     match start {
         RebaseStart::Begun(w) => each_rebase(w, s, max, fault, lines),
-        RebaseStart::Refused(e) => closing::refused(lines, Out::start(), e, 0, 0),
+        RebaseStart::Refused(e) => listed(Out::start(), 0, Ending::Refused(e, 0, 0)),
     }
 }
 
-fn each_rebase(start: RebaseWalk, s: &[u8], max: u64, fault: Fault, lines: &mut [u8]) -> Out {
+fn each_rebase(start: RebaseWalk, s: &[u8], max: u64, fault: Fault, lines: &mut [u8]) -> List {
     let mut w = start;
     let mut out = Out::start();
-    let mut listed: u64 = 0;
+    let mut count: u64 = 0;
     while !out.broken {
         match w.step(s) {
             RebaseStep::Item(x, next) => {
-                if listed == max {
-                    return closing::cut(lines, out, listed);
+                if count == max {
+                    return listed(out, count, Ending::Cut);
                 }
-                listed += 1;
+                count += 1;
                 out = rebase(lines, out, x);
                 w = next;
             }
-            RebaseStep::End(_) => return closing::end(lines, out, listed),
+            RebaseStep::End(_) => return listed(out, count, Ending::End),
             RebaseStep::Refused(e, stood) => {
                 let place = fault.place(e, stood.cursor.at);
-                return closing::refused(lines, out, e, place, listed);
+                return listed(out, count, Ending::Refused(e, place, count));
             }
         }
     }
-    out
+    listed(out, count, Ending::Cut)
 }
 
 fn rebase(lines: &mut [u8], out: Out, x: Rebase) -> Out {
@@ -102,35 +105,35 @@ fn rebase(lines: &mut [u8], out: Out, x: Rebase) -> Out {
     out.byte(lines, b'\n')
 }
 
-fn binds(start: BindStart, s: &[u8], max: u64, fault: Fault, lines: &mut [u8]) -> Out {
+fn binds(start: BindStart, s: &[u8], max: u64, fault: Fault, lines: &mut [u8]) -> List {
     match start {
         BindStart::Begun(w) => each_bind(w, s, max, fault, lines),
-        BindStart::Refused(e) => closing::refused(lines, Out::start(), e, 0, 0),
+        BindStart::Refused(e) => listed(Out::start(), 0, Ending::Refused(e, 0, 0)),
     }
 }
 
-fn each_bind(start: BindWalk, s: &[u8], max: u64, fault: Fault, lines: &mut [u8]) -> Out {
+fn each_bind(start: BindWalk, s: &[u8], max: u64, fault: Fault, lines: &mut [u8]) -> List {
     let mut w = start;
     let mut out = Out::start();
-    let mut listed: u64 = 0;
+    let mut count: u64 = 0;
     while !out.broken {
         match w.step(s) {
             BindStep::Item(x, next) => {
-                if listed == max {
-                    return closing::cut(lines, out, listed);
+                if count == max {
+                    return listed(out, count, Ending::Cut);
                 }
-                listed += 1;
+                count += 1;
                 out = bind(lines, out, x, s);
                 w = next;
             }
-            BindStep::End(_) => return closing::end(lines, out, listed),
+            BindStep::End(_) => return listed(out, count, Ending::End),
             BindStep::Refused(e, stood) => {
                 let place = fault.place(e, stood.cursor.at);
-                return closing::refused(lines, out, e, place, listed);
+                return listed(out, count, Ending::Refused(e, place, count));
             }
         }
     }
-    out
+    listed(out, count, Ending::Cut)
 }
 
 fn bind(lines: &mut [u8], out: Out, x: Bind, s: &[u8]) -> Out {

@@ -7,10 +7,10 @@ use Rattle.dump.proofs.chained.each_import.Statement.{statement}
 use Rattle.dump.proofs.chained.each_import.Tie as tie
 
 abbrev Inv-loop : tie.InvT-loop
-Inv-loop s max lines₀ w₀ out₀ listed₀ lines w out listed = (listed ≤ max) × (length lines ≡ length lines₀)
+Inv-loop s max lines₀ w₀ out₀ count₀ lines w out count = (count ≤ max) × (length lines ≡ length lines₀)
 
 abbrev μ-loop : tie.MeasureT-loop
-μ-loop s max lines₀ w₀ out₀ listed₀ lines w out listed = max - listed
+μ-loop s max lines₀ w₀ out₀ count₀ lines w out count = max - count
 
 pub each-import-spec : {M : Type 1} → statement M
 each-import-spec =
@@ -37,5 +37,6 @@ each-import-spec =
     (λ c κs. search needs)
     (λ c. search needs)
     (λ c. search needs)
+    (λ c κs. search needs)
     (λ c. search needs)
     (λ c. search needs))

@@ -7,10 +7,10 @@ use Rattle.dump.proofs.exports.each.Statement.{statement}
 use Rattle.dump.proofs.exports.each.Tie as tie
 
 abbrev Inv-loop : tie.InvT-loop
-Inv-loop s name₀ max lines₀ w₀ out₀ listed₀ name lines w out listed = (listed ≤ max) × (length name ≡ length name₀) × (length lines ≡ length lines₀)
+Inv-loop s name₀ max lines₀ w₀ out₀ count₀ name lines w out count = (count ≤ max) × (length name ≡ length name₀) × (length lines ≡ length lines₀)
 
 abbrev μ-loop : tie.MeasureT-loop
-μ-loop s name₀ max lines₀ w₀ out₀ listed₀ name lines w out listed = max - listed
+μ-loop s name₀ max lines₀ w₀ out₀ count₀ name lines w out count = max - count
 
 pub each-spec : {M : Type 1} → statement M
 each-spec =
@@ -48,6 +48,7 @@ each-spec =
     (λ c. search needs)
     (λ c. search needs)
     (λ c. search needs)
+    (λ c κs. search needs)
     (λ c. search needs)
     (λ c. search needs)
     (λ c. search needs))
