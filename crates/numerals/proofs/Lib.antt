@@ -1,3 +1,4 @@
 mod Turns
 mod Prefixes
 mod Samples
+mod Ascii

@@ -8,7 +8,7 @@ use borrow.Author.Tests.{lt-ltb, le-ltb, eq-eqb, ne-eqb, ltb-true}
 use lib.Dec.{ltb, eqb}
 use lib.ListN.{length, getD, take, drop, length-drop}
 use lib.Seq.{take-all}
-use Rattle.numerals.specs.Numerals.{behind, isHexadecimal, numeralOf}
+use Rattle.numerals.specs.Numerals.{inBase, isHexadecimal, numeralOf}
 use Rattle.numerals.specs.declared.Numeral.{Numeral}
 use Rattle.numerals.specs.declared.Numeral.the-variants as numeral
 
@@ -31,14 +31,14 @@ module _ (t : List ℕ) where
         first true g = omega (arith, ltb-true 2 (length t) g)
         first false g = absurd (true≢false (sym f ∙ e ∙ rw g refl))
 
-    pub hexadecimal : {x : Numeral} → r ≡ true → x ≡ behind 16 0 (take (length t - 2) (drop 2 t)) → x ≡ numeralOf t
+    pub hexadecimal : {x : Numeral} → r ≡ true → x ≡ inBase 16 (take (length t - 2) (drop 2 t)) → x ≡ numeralOf t
     unfolding numeralOf
-    hexadecimal f q = rw (sym e ∙ f) (q ∙ ap (behind 16 0) (take-all (length t - 2) (drop 2 t) (omega (arith, length-drop 2 t))))
+    hexadecimal f q = rw (sym e ∙ f) (q ∙ ap (inBase 16) (take-all (length t - 2) (drop 2 t) (omega (arith, length-drop 2 t))))
 
     pub none : r ≡ false → length t ≡ 0 → numeral.Not ≡ numeralOf t
     unfolding numeralOf
     none f z = rw (sym e ∙ f, eq-eqb (length t) 0 z) refl
 
-    pub decimal : {x : Numeral} → r ≡ false → (length t ≡ 0 → ⊥) → x ≡ behind 10 0 t → x ≡ numeralOf t
+    pub decimal : {x : Numeral} → r ≡ false → (length t ≡ 0 → ⊥) → x ≡ inBase 10 t → x ≡ numeralOf t
     unfolding numeralOf
     decimal f n q = rw (sym e ∙ f, ne-eqb (length t) 0 n) q

@@ -1,7 +1,7 @@
 // Numbers as they are written on a command line: decimal, or hexadecimal behind 0x.
 ghost use Prim.Native.Nat.{_<_};
 ghost use mathlib.Core.Path.{_≡_};
-ghost use Rattle.numerals.specs.Numerals.{digitOf, behind, isHexadecimal, numeralOf};
+ghost use Rattle.numerals.specs.Numerals.{among, digitOf, inBase, isHexadecimal, numeralOf};
 
 pub enum Numeral {
     Value(u64),
@@ -32,10 +32,10 @@ fn is_hexadecimal(text: &[u8]) -> bool
     text[1] == b'x'
 }
 
-// Every byte is a digit of the base.
+// In a base: digit by digit, what those before come to, times the base.
 fn digits(text: &[u8], base: u64) -> Numeral
     requires { ⌜ 0 < base ⌝ }
-    ensures { λ r. ⌜ r ≡ behind base 0 (now (text .entry)) ⌝ }
+    ensures { λ r. ⌜ r ≡ inBase base (now (text .entry)) ⌝ }
 {
     let mut value: u64 = 0;
     let mut i = 0;
@@ -56,19 +56,23 @@ fn digits(text: &[u8], base: u64) -> Numeral
 fn digit(b: u8) -> u64
     ensures { λ r. ⌜ r ≡ digitOf b ⌝ }
 {
-    if b < b'0' {
-        16
-    } else if b <= b'9' {
-        (b - b'0') as u64
-    } else if b < b'A' {
-        16
-    } else if b <= b'F' {
-        (b - b'A') as u64 + 10
-    } else if b < b'a' {
-        16
-    } else if b <= b'f' {
-        (b - b'a') as u64 + 10
-    } else {
-        16
+    if among(b'0', b'9', b) {
+        return (b - b'0') as u64;
     }
+    if among(b'A', b'F', b) {
+        return (b - b'A') as u64 + 10;
+    }
+    if among(b'a', b'f', b) {
+        return (b - b'a') as u64 + 10;
+    }
+    16
+}
+
+fn among(first: u8, last: u8, b: u8) -> bool
+    ensures { λ r. ⌜ r ≡ among first last b ⌝ }
+{
+    if b < first {
+        return false;
+    }
+    b <= last
 }

@@ -2,14 +2,14 @@
 use mathlib.Core.Path.{_≡_}
 use Prim.Native.Nat.{_-_}
 use lib.ListN.{length, drop}
-use Rattle.numerals.specs.Numerals.{behind}
-use Rattle.numerals.proofs.Turns.{all, no-digit, too-large, goes-on, product, sum}
+use Rattle.numerals.specs.Numerals.{inBase}
+use Rattle.numerals.proofs.Turns.{behind, starts, all, no-digit, too-large, goes-on, product, sum}
 use borrow.Author.Needs.{needs}
 use Rattle.numerals.proofs.digits.Statement.{statement}
 use Rattle.numerals.proofs.digits.Tie as tie
 
 abbrev Inv-loop : tie.InvT-loop
-Inv-loop text base value₀ i₀ value i = behind base 0 text ≡ behind base value (drop i text)
+Inv-loop text base value₀ i₀ value i = inBase base text ≡ behind base value (drop i text)
 
 abbrev μ-loop : tie.MeasureT-loop
 μ-loop text base value₀ i₀ value i = length text - i
@@ -20,7 +20,7 @@ digits-spec =
     (tie.spec
     Inv-loop
     μ-loop
-    (λ c. search needs)
+    (λ c. search (starts, needs))
     (λ c. search needs)
     (λ c κs. search needs)
     (λ c. search (no-digit, needs))
