@@ -3,3 +3,4 @@ pub mod Unique
 pub mod Names
 pub mod Lazy
 pub mod Walks
+pub mod Typed

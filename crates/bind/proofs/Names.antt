@@ -13,7 +13,7 @@ use Rattle.listing.specs.Call.{State, call}
 use Rattle.listing.specs.Machine.{_and_}
 use Rattle.numbers.proofs.Laws.{part-length}
 use Rattle.numbers.specs.Parts.{partOf}
-use Rattle.operations.proofs.Symbols.{NameIn, symbol-read}
+use Rattle.operations.proofs.Typed.{BindTyped, bind-typed}
 use Rattle.operations.specs.Loader.{bindTable}
 use Rattle.operations.specs.Table.{operation, operationAt}
 use Rattle.operations.specs.declared.bind_operation.BindOperation.{BindOperation}
@@ -51,11 +51,11 @@ module _ (s : List ℕ) where
   named-ordinal g ordinal h true = h
   named-ordinal g ordinal h false = h
 
-  named-effect : (size : ℕ) (op : BindOperation) (g : Registers) → NameIn s op → Named g → Named (effectOf size op g .registers)
+  named-effect : (size : ℕ) (op : BindOperation) (g : Registers) → BindTyped s op → Named g → Named (effectOf size op g .registers)
   named-effect size Done g n h = named-done g h (g .lazy)
   named-effect size (SetDylibOrdinal ordinal) g n h = named-ordinal g ordinal h (leb ordinal 2147483647)
   named-effect size (SetDylibSpecial ordinal) g n h = h
-  named-effect size (SetSymbol flags place len) g n h = n
+  named-effect size (SetSymbol flags place len) g n h = n .1
   named-effect size (SetType kind) g n h = h
   named-effect size (SetAddend addend) g n h = h
   named-effect size (SetSegmentAndOffset index offset) g n h = h
@@ -66,7 +66,7 @@ module _ (s : List ℕ) where
   named-effect size (DoBindTimesSkipping count skip) g n h = h
 
   keeps-named : (size at next : ℕ) (op : BindOperation) (g : Registers) → operationAt bindTable s at ≡ operation op next → Named g → Named (effectOf size op g .registers)
-  keeps-named size at next op g e = named-effect size op g (symbol-read s at e)
+  keeps-named size at next op g e = named-effect size op g (bind-typed s at e)
 
   -- the name of a bind, where the state that was called has a name in the stream; and the next state has one too
   pub record NamedBind (x : Bind) (v : State Registers) : Type 0 where

@@ -9,11 +9,11 @@ use Rattle.cursor.specs.declared.Standing.the-variants as standing
 use Rattle.listing.specs.Call.{State, state, called, call}
 use Rattle.listing.specs.Machine.{Machine}
 use Rattle.listing.specs.Stream.{streamAt}
-use Rattle.listing.proofs.Answers.{Keeps, by-due, by-read}
+use Rattle.listing.proofs.Answers.{KeepsRegisters, by-registers, by-due, by-read}
 use Rattle.listing.proofs.Runs.{call-by}
 use Rattle.runs.specs.Runs.{Answer, item, end, refused}
 
-module _ (M : Machine) (s : List ℕ) (P : M .Reg → Type 0) (keeps : Keeps M s P) where
+module _ (M : Machine) (s : List ℕ) (P : M .Reg → Type 0) (keeps : KeepsRegisters M s P) where
   -- an item is made of registers of which it holds
   pub record Gives (x : M .Item) (v : State (M .Reg)) : Type 0 where
     pub offset : ℕ
@@ -33,9 +33,9 @@ module _ (M : Machine) (s : List ℕ) (P : M .Reg → Type 0) (keeps : Keeps M s
     holds-called standing.OutOfRange = p
     holds-called standing.Ended = p
     holds-called (standing.Due c) =
-        by-due M s P keeps w Holds made (λ v q. q) (λ e. p) (w .cursor .offset) (state c (w .registers)) p (M .lack (w .registers))
+        by-due M s (λ v. P (v .registers)) (by-registers M s P keeps) w Holds made (λ v q. q) (λ e. p) (w .cursor .offset) (state c (w .registers)) p (M .lack (w .registers))
     holds-called standing.Reading =
-        by-read M s P keeps w Holds made (λ v q. q) (λ e. p) (streamAt M s (w .cursor .at)) (w .cursor .at) refl w p
+        by-read M s (λ v. P (v .registers)) (by-registers M s P keeps) w Holds made (λ v q. q) (λ e. p) (streamAt M s (w .cursor .at)) (w .cursor .at) refl w p
 
     pub held : {a : Answer (State (M .Reg)) (M .Item)} → call M s w ≡ a → Holds a
     held e =

@@ -2,23 +2,20 @@
 use Prim.Native.Nat.{ℕ, zero, suc, _+_, _^_, _<_}
 use mathlib.Core.Path.{_≡_, refl, ap, sym, _∙_, subst}
 use mathlib.Core.List.{List}
-use mathlib.Core.Bool.{Bool, true, false, cond}
 use native.Mathlib.Omega.{arith}
 use lib.ListN.{length}
 use Rattle.cursor.proofs.Bounds.{Bounded, bounded}
 use Rattle.cursor.proofs.Turns.{stands-live}
-use Rattle.cursor.specs.Cursor.{isPointerSize, atStart, startOf}
 use Rattle.cursor.specs.Motion.{turnOf}
 use Rattle.cursor.specs.declared.Lack.{Lack}
 use Rattle.cursor.specs.declared.Lack.the-variants.{Nothing, Lacks}
-use Rattle.cursor.specs.declared.Start.the-variants as start
 use Rattle.cursor.specs.declared.Turn.{Turn}
 use Rattle.cursor.specs.declared.Turn.the-variants.{On, Anew, Due, End, Refused}
-use Rattle.listing.specs.Call.{State, state, beginFrom, begin, call}
+use Rattle.listing.specs.Call.{State, state, begin, call}
 use Rattle.listing.specs.Listing.{Listing, places, repeated, listed, listingOf, listing, heard}
 use Rattle.listing.specs.Machine.{Machine}
 use Rattle.listing.specs.Stream.{Stream, out, bad, one, streamAt}
-use Rattle.refusal.specs.declared.Refusal.the-variants.{PointerSize}
+use Rattle.listing.proofs.Starts.{begun-is}
 use Rattle.listing.proofs.Runs.{InRange, live, runs, runDue, runTurn, runOps, runBy, runOf, walks-all}
 use Rattle.places.proofs.Places.{place-first, place-next, place-below}
 use Rattle.places.specs.Places.{placeAt}
@@ -78,26 +75,11 @@ module _ (M : Machine) where
         (walks-all M s w)
 
     module _ (size : ℕ) (g : M .Reg) where
-      record Begun (w : State (M .Reg)) : Type 0 where
-        sized : isPointerSize size ≡ true
-        is : w ≡ state (atStart size) g
-
-      begun-is : {w : State (M .Reg)} → begin size g ≡ begun w → Begun w
-      unfolding startOf
-      begun-is {w} e = by-size (isPointerSize size) refl e
-        where
-          by-size : (b : Bool) → isPointerSize size ≡ b → beginFrom g (cond b (start.Begun (atStart size)) (start.Refused PointerSize)) ≡ begun w → Begun w
-          by-size true z f = record { sized = z; is = cc }
-          by-size false z f = let q : _≡_ {A = ℕ} 0 1 = cc in absurd (omega arith)
-
-      pub begun-sized : {w : State (M .Reg)} → begin size g ≡ begun w → isPointerSize size ≡ true
-      begun-sized e = begun-is e .sized
-
       -- calls from a start on say what the stream lists
       pub joined : (w : State (M .Reg)) → begin size g ≡ begun w → Walks (call M s) w (heard (listing M size g s))
       unfolding listing
       joined w e =
-          let b = begun-is e in
+          let b = begun-is size g e in
           subst (λ (v : State (M .Reg)). Walks (call M s) v (heard (listing M size g s))) (sym (b .is))
           (reads-on size 0 0 0 g (record { inside = omega arith; sized = b .sized }) (omega arith))
 

@@ -9,7 +9,7 @@ use Rattle.cursor.specs.declared.Standing.the-variants as standing
 use Rattle.listing.specs.Call.{State, state, called, call}
 use Rattle.listing.specs.Machine.{Machine}
 use Rattle.listing.specs.Stream.{streamAt}
-use Rattle.listing.proofs.Answers.{Keeps, by-due, by-read}
+use Rattle.listing.proofs.Answers.{Keeps, by-registers, by-due, by-read}
 use Rattle.listing.proofs.Runs.{call-by}
 use Rattle.runs.specs.Runs.{Answer, item, end, refused}
 
@@ -23,12 +23,12 @@ module _ (M : Machine) (w : State (M .Reg)) where
   IfRefused (refused e v) = v ≡ ended
 
   module _ (s : List ℕ) where
-    -- nothing is asked of the registers
-    abbrev Any : M .Reg → Type 0
-    Any g = Unit {0}
+    -- nothing is asked of the states
+    abbrev Any : State (M .Reg) → Type 0
+    Any v = Unit {0}
 
     anyhow : Keeps M s Any
-    anyhow size at next op g e p = tt
+    anyhow = by-registers M s (λ g. Unit {0}) (λ size at next op g e p. tt)
 
     refused-live : (n : ℕ) → IfRefused (called M w s (liveStanding (w .cursor) n))
     refused-live zero =

@@ -7,3 +7,4 @@ pub mod Resumed
 pub mod Held
 pub mod Loops
 pub mod Starts
+pub mod Typed

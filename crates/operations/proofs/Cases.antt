@@ -3,6 +3,7 @@ use Prim.Native.Nat.{ℕ, _+_, _*_, _/_, _%_, _≤_, _<_}
 use mathlib.Core.Path.{_≡_, refl}
 use mathlib.Core.Bool.{Bool, true, false, cond}
 use mathlib.Core.List.{List, [], _∷_}
+use native.Mathlib.Omega.{arith}
 use borrow.Author.Tests.{ltb-true, ltb-false}
 use lib.Dec.{ltb, eqb}
 use lib.ListN.{length, getD}
@@ -30,11 +31,11 @@ module _ {Op : Type 0} (P : Parsed Op → Type 0) (bad : (e : Refusal) → P (fa
     by-row opcode (k ⇒ operands ∷ rows) h =
         either (eqb opcode k) (operandsAt s at operands) (rowAt s at opcode rows) (h .0) (by-row opcode rows (h .1))
 
-  module _ (table : ℕ → List (Row Op)) (s : List ℕ) (at : ℕ) (rows : at < length s → (imm : ℕ) → Each s (at + 1) (table imm)) (none : length s ≤ at → P noBytes) where
+  module _ (table : ℕ → List (Row Op)) (s : List ℕ) (at : ℕ) (rows : at < length s → (imm : ℕ) → imm < 16 → Each s (at + 1) (table imm)) (none : length s ≤ at → P noBytes) where
     by-test : (t : Bool) → ltb at (length s) ≡ t →
         P (cond t (rowAt s (at + 1) (getD s at 0 / 16 * 16) (table (getD s at 0 % 16))) noBytes)
     by-test true e =
-        by-row s (at + 1) (getD s at 0 / 16 * 16) (table (getD s at 0 % 16)) (rows (ltb-true at (length s) e) (getD s at 0 % 16))
+        by-row s (at + 1) (getD s at 0 / 16 * 16) (table (getD s at 0 % 16)) (rows (ltb-true at (length s) e) (getD s at 0 % 16) (omega arith))
     by-test false e = none (ltb-false at (length s) e)
 
     pub by-table : P (operationAt table s at)

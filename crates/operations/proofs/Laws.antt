@@ -50,7 +50,7 @@ module _ {Op : Type 0} (s : List ℕ) (at : ℕ) where
 
   module _ (table : ℕ → List (Row Op)) where
     if-operation : IfRead (operationAt table s at)
-    if-operation = by-table IfRead (λ e. tt) table s at (λ h imm. each IfRead (λ e. tt) s (at + 1) (if-operands h) (table imm)) (λ h. h)
+    if-operation = by-table IfRead (λ e. tt) table s at (λ h imm low. each IfRead (λ e. tt) s (at + 1) (if-operands h) (table imm)) (λ h. h)
 
     pub operation-read : {op : Op} {next : ℕ} → operationAt table s at ≡ operation op next → Within s at next
     operation-read e = subst IfRead e if-operation

@@ -1,4 +1,4 @@
 pub mod Rows
 pub mod Cases
 pub mod Laws
-pub mod Symbols
+pub mod Typed

@@ -3,7 +3,8 @@ use Prim.Native.Nat.{ℕ}
 use mathlib.Core.Path.{_≡_, refl, ap, sym, _∙_}
 use mathlib.Core.Bool.{Bool, true, false}
 use mathlib.Core.List.{List}
-use Rattle.listing.proofs.Joined.{joined-only, begun-sized}
+use Rattle.listing.proofs.Joined.{joined-only}
+use Rattle.listing.proofs.Starts.{begun-is}
 use Rattle.listing.specs.Call.{State, begin, call}
 use Rattle.listing.specs.Listing.{Listing, ends, refuses, lists, listing, heard}
 use Rattle.listing.specs.Machine.{Machine}
@@ -32,5 +33,5 @@ module _ (M : Machine) (size : ℕ) (sizes : List ℕ) where
       outcome (preflight M g size sizes s) ≡ walked M size sizes r
   unfolding preflight withSizes
   agrees g s w e fit r walks =
-      rw (begun-sized M s size g e, fit)
+      rw (begun-is size g e .sized, fit)
       (heard-alike (listing M size g s) ∙ ap (walked M size sizes) (sym (joined-only M s size g w e r walks)))

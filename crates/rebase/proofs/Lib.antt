@@ -1,3 +1,4 @@
 pub mod Effects
 pub mod Unique
 pub mod Walks
+pub mod Typed

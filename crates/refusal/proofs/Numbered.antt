@@ -1,8 +1,9 @@
 -- Laws of the table of numbers. Assumes nothing.
-use Prim.Native.Nat.{ℕ, _-_}
+use Prim.Native.Nat.{ℕ}
 use mathlib.Core.Path.{_≡_, refl, ap, sym, _∙_}
 use mathlib.Core.List.{List, [], _∷_}
-use lib.ListN.{getD}
+use mathlib.Core.Bool.{Bool, true, cond, _&&_}
+use lib.Dec.{eqb, ltb}
 use Rattle.refusal.proofs.Unique.{one-each}
 use Rattle.refusal.specs.Numbers.{numberOf}
 use Rattle.refusal.specs.declared.Refusal.{Refusal}
@@ -36,7 +37,6 @@ row n e f = sym (ap numberOf e ∙ f)
 
 -- ---- a number has one refusal
 
--- in the order of their numbers, from 1
 abbrev refusals : List Refusal
 refusals =
     PointerSize ∷
@@ -62,31 +62,49 @@ refusals =
     UnfitSizes ∷
     []
 
+abbrev lookedUp : ℕ → List Refusal → Refusal
+lookedUp n [] = PointerSize
+lookedUp n (r ∷ rs) = cond (eqb (numberOf r) n) r (lookedUp n rs)
+
+-- by its number; of a number that none has, any
 abbrev pub refusalOf : ℕ → Refusal
-refusalOf n = getD refusals (n - 1) PointerSize
+refusalOf n = lookedUp n refusals
+
+-- a number that can be told from the answers for an item, the end and more
+abbrev pub isNumber : ℕ → Bool
+isNumber n = ltb 0 n && ltb n 256
+
+abbrev pub IsNumber : ℕ → Type 0
+IsNumber n = isNumber n ≡ true
+
+known : (r : Refusal) → _≡_ {A = Refusal × Bool} (refusalOf (numberOf r), isNumber (numberOf r)) (r, true)
+known PointerSize = refl
+known UnknownOpcode = refl
+known FaultyOperand = refl
+known OrdinalTooLarge = refl
+known NoSegment = refl
+known NoType = refl
+known NoLibrary = refl
+known NoSymbol = refl
+known FaultyChains = refl
+known UnknownVersion = refl
+known UnsupportedFormat = refl
+known BeyondStarts = refl
+known PointerOutside = refl
+known FaultyImport = refl
+known FaultyNode = refl
+known ChildIsOpen = refl
+known TooManyOpenNodes = refl
+known NameTooLong = refl
+known StateOutOfRange = refl
+known PlaceOutside = refl
+known UnfitSizes = refl
 
 pub refusal-back : (r : Refusal) → refusalOf (numberOf r) ≡ r
-refusal-back PointerSize = refl
-refusal-back UnknownOpcode = refl
-refusal-back FaultyOperand = refl
-refusal-back OrdinalTooLarge = refl
-refusal-back NoSegment = refl
-refusal-back NoType = refl
-refusal-back NoLibrary = refl
-refusal-back NoSymbol = refl
-refusal-back FaultyChains = refl
-refusal-back UnknownVersion = refl
-refusal-back UnsupportedFormat = refl
-refusal-back BeyondStarts = refl
-refusal-back PointerOutside = refl
-refusal-back FaultyImport = refl
-refusal-back FaultyNode = refl
-refusal-back ChildIsOpen = refl
-refusal-back TooManyOpenNodes = refl
-refusal-back NameTooLong = refl
-refusal-back StateOutOfRange = refl
-refusal-back PlaceOutside = refl
-refusal-back UnfitSizes = refl
+refusal-back r = ap (λ (p : Refusal × Bool). p .0) (known r)
+
+pub is-number : (r : Refusal) → IsNumber (numberOf r)
+is-number r = ap (λ (p : Refusal × Bool). p .1) (known r)
 
 pub number-one : (r q : Refusal) → numberOf r ≡ numberOf q → r ≡ q
 number-one = one-each numberOf refusalOf refusal-back

@@ -36,6 +36,12 @@ module _ {W Item : Type 0} where
   IfRefused P (end v) = Unit {0}
   IfRefused P (refused number v) = P v
 
+  -- of any answer, what holds of the state that it hands back, and of the number of a refusal
+  abbrev pub Hands : (W → Type 0) → (ℕ → Type 0) → Answer W Item → Type 0
+  Hands P N (item x v) = P v
+  Hands P N (end v) = P v
+  Hands P N (refused number v) = P v × N number
+
 module _ {W Item : Type 0} (call : W → Answer W Item) where
   pub walks-one : {w : W} {r q : Run Item} → Walks call w r → Walks call w q → r ≡ q
   walks-one (at-end e) (at-end f) = refl
