@@ -4,3 +4,4 @@ pub mod Boundary
 pub mod Signs
 pub mod Back
 pub mod Reading
+pub mod Whole

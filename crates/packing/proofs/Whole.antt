@@ -1,0 +1,92 @@
+-- Bytes that are read as words, and written again, are as they were. Assumes nothing.
+use Prim.Native.Nat.{ℕ, zero, suc, _+_, _*_, _/_, _%_, _^_, _≤_, _<_}
+use mathlib.Core.Path.{_≡_, refl, sym, ap, _∙_}
+use mathlib.Core.List.{List, [], _∷_, _++_}
+use native.Mathlib.Omega.{arith}
+use native.Mathlib.Decide.{decLt}
+use borrow.Author.Tests.{le-leb}
+use lib.ListN.{length, take, drop, getD, length-drop}
+use lib.Seq.{take-add, take-all, drop-drop}
+use Rattle.numbers.specs.Digits.{fromDigits}
+use Rattle.numbers.specs.LittleEndian.{littleEndian, fieldAt}
+use Rattle.numbers.specs.Then.{thenNumber}
+use Rattle.packing.proofs.Signs.{positive, negative}
+use Rattle.packing.specs.Fields.{isSet, bit, signedOf, unsignedOf}
+use Rattle.packing.specs.Words.{wordAt, wordsFrom, toDigits, wordBytes, bytesOf}
+
+-- what the bytes of a slice are known to be
+abbrev pub Bytes : List ℕ → Type 0
+Bytes s = (i : ℕ) → getD s i 0 < 256
+
+pub bytes-drop : (k : ℕ) (s : List ℕ) → Bytes s → Bytes (drop k s)
+bytes-drop zero s h = h
+bytes-drop (suc k) [] h = h
+bytes-drop (suc k) (d ∷ s) h = bytes-drop k s (λ i. h (suc i))
+
+-- ---- a word
+
+digits-whole : (n : ℕ) (s : List ℕ) → Bytes s → n ≤ length s → toDigits 256 n (fromDigits 256 (take n s)) ≡ take n s
+unfolding toDigits fromDigits
+digits-whole zero s h l = refl
+digits-whole (suc n) [] h l = absurd (omega arith)
+digits-whole (suc n) (d ∷ s) h l =
+    let v : ℕ = fromDigits 256 (take n s) in
+    let low : (d + 256 * v) % 256 ≡ d = omega (arith, h 0) in
+    let high : (d + 256 * v) / 256 ≡ v = omega (arith, h 0) in
+    λ j. low j ∷ (ap (toDigits 256 n) high ∙ digits-whole n s (λ i. h (suc i)) (omega arith)) j
+
+pub word-whole : (s : List ℕ) → Bytes s → (i : ℕ) → 8 * i + 8 ≤ length s → wordBytes (wordAt s i) ≡ take 8 (drop (8 * i) s)
+unfolding wordAt fieldAt thenNumber littleEndian
+word-whole s h i l =
+    rw (le-leb (8 * i + 8) (length s) l)
+    (digits-whole 8 (drop (8 * i) s) (bytes-drop (8 * i) s h) (omega (arith, length-drop (8 * i) s)))
+
+-- ---- words
+
+-- so many, from an index on
+pub words-from : (s : List ℕ) → Bytes s → (i n : ℕ) → 8 * (i + n) ≤ length s → bytesOf (wordsFrom s i n) ≡ take (8 * n) (drop (8 * i) s)
+unfolding bytesOf wordsFrom
+words-from s h i zero l = refl
+words-from s h i (suc n) l =
+    let next : 8 * i + 8 ≡ 8 * (i + 1) = omega arith in
+    let more : 8 + 8 * n ≡ 8 * suc n = omega arith in
+    (λ j. word-whole s h i (omega arith) j ++ words-from s h (i + 1) n (omega arith) j)
+    ∙ sym
+    (ap (λ (k : ℕ). take k (drop (8 * i) s)) (sym more)
+    ∙ take-add 8 (8 * n) (drop (8 * i) s)
+    ∙ ap (λ (t : List ℕ). take 8 (drop (8 * i) s) ++ take (8 * n) t) (drop-drop 8 (8 * i) s ∙ ap (λ (k : ℕ). drop k s) next))
+
+-- so many in front
+pub words-front : (s : List ℕ) → Bytes s → (n : ℕ) → 8 * n ≤ length s → bytesOf (wordsFrom s 0 n) ≡ take (8 * n) s
+words-front s h n l = words-from s h 0 n (omega arith)
+
+-- all
+pub words-whole : (s : List ℕ) → Bytes s → (n : ℕ) → length s ≡ 8 * n → bytesOf (wordsFrom s 0 n) ≡ s
+words-whole s h n l = words-front s h n (omega arith) ∙ take-all (8 * n) s (omega arith)
+
+-- words one part behind the other
+pub words-add : (s : List ℕ) (i m n : ℕ) → wordsFrom s i (m + n) ≡ wordsFrom s i m ++ wordsFrom s (i + m) n
+unfolding wordsFrom
+words-add s i zero n =
+    let e : 0 + n ≡ n = omega arith in
+    let f : i + 0 ≡ i = omega arith in
+    rw (e, f)
+words-add s i (suc m) n =
+    let e : suc m + n ≡ suc (m + n) = omega arith in
+    let f : i + 1 + m ≡ i + suc m = omega arith in
+    ap (wordsFrom s i) e
+    ∙ ap (λ (l : List ℕ). wordAt s i ∷ l) (words-add s (i + 1) m n ∙ ap (λ (k : ℕ). wordsFrom s (i + 1) m ++ wordsFrom s k n) f)
+
+-- ---- fields
+
+pub flag-whole : (v : ℕ) → v ≤ 1 → bit (isSet v) ≡ v
+flag-whole zero h = refl
+flag-whole (suc zero) h = refl
+flag-whole (suc (suc v)) h = absurd (omega arith)
+
+pub signed-whole : (v : ℕ) → v < 2 ^ 64 → unsignedOf (signedOf v) ≡ v
+signed-whole v h =
+    elim (decLt v (2 ^ 63)) [
+      | yes l ↦ ap unsignedOf (positive v l)
+      | no l ↦ ap unsignedOf (negative v (omega arith) h) ∙ omega arith
+    ]
