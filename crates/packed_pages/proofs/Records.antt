@@ -8,7 +8,7 @@ use lib.ListN.{length, getD}
 use Rattle.chains.specs.declared.Segment.{Segment}
 use Rattle.packed_pages.specs.Packed.{beginAt}
 use Rattle.packed_segments.specs.Packed.{segmentFields, segmentAt}
-use Rattle.packing.proofs.Fields.{half-fits}
+use Rattle.packing.proofs.Fields.{at-most}
 use Rattle.packing.specs.Boundary.{unfit}
 use Rattle.packing.specs.Fields.{u16, fits}
 use Rattle.packing.specs.Words.{wordAt}
@@ -18,7 +18,7 @@ use Rattle.runs.specs.Runs.{Begin, notBegun}
 
 -- a field of two bytes
 pub half-most : (largest s : List ℕ) (i : ℕ) → fits s largest ≡ true → i < length largest → getD largest i 0 ≡ u16 → wordAt s i ≤ u16
-half-most largest s i e h m = omega (arith, half-fits largest s {i = i} refl e h m .fits)
+half-most largest s i e h m = omega (arith, at-most largest s e i h, m)
 
 -- ---- a start
 

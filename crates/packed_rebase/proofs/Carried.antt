@@ -1,28 +1,50 @@
--- A state whose fields are such as their types have comes back from its bytes whole. Assumes nothing.
-use Prim.Native.Nat.{ℕ, _<_}
+-- States of rebase walks in bytes, both ways; and what calls in a row through the entry points say. Assumes nothing.
+use Prim.Native.Nat.{ℕ, _^_, _≤_, _<_}
 use mathlib.Core.Path.{_≡_, refl, ap, _∙_}
-use mathlib.Core.Bool.{Bool}
-use mathlib.Core.List.{List}
+use mathlib.Core.Bool.{Bool, true, false}
+use mathlib.Core.List.{List, [], _∷_}
 use native.Mathlib.Omega.{arith}
 use lib.ListN.{length, getD}
-use Rattle.listing.specs.Call.{State, state, call}
-use Rattle.packing.proofs.Back.{Each, each-at, word-back, fits-back, flag-back}
-use Rattle.packing.proofs.Boundary as boundary
-use Rattle.packing.specs.Boundary.{stepTold, stepped}
-use Rattle.packing.specs.Fields.{isSet, bit}
-use Rattle.packing.specs.Words.{wordAt, bytesOf}
-use Rattle.packed_rebase.specs.Packed.{stateFields, stateWords, stateAt, states, items}
-use Rattle.rebase.specs.Rebases.{rebases}
+use Rattle.cursor.specs.Cursor.{inRange}
+use Rattle.listing.proofs.Joined.{joined}
+use Rattle.listing.proofs.Kept.{out-of-range}
+use Rattle.listing.proofs.Typed.{Typed, typed-begin}
+use Rattle.listing.specs.Call.{State, state, begin, call}
+use Rattle.listing.specs.Listing as listing
+use Rattle.packing.proofs.Back.{Each, none, word-field, byte-field, flag-field, each-at, word-back, fits-back, flag-back}
+use Rattle.packing.proofs.Calls.{Faithful, Long, started-say, refused-back}
+use Rattle.packing.proofs.Fields.{fits-long, at-most}
+use Rattle.packing.proofs.Whole.{Bytes, words-whole, flag-whole}
+use Rattle.packing.proofs.Words.{length-bytes}
+use Rattle.packing.specs.Boundary.{started, stepped}
+use Rattle.packing.specs.Calls.{lent, through, recorded}
+use Rattle.packing.specs.Fields.{fits, isSet, bit}
+use Rattle.packing.specs.Words.{wordAt, wordsFrom, bytesOf}
+use Rattle.packed_rebase.specs.Packed.{stateFields, stateWords, stateAt, states, itemWords, items}
+use Rattle.rebase.proofs.Typed.{TypedRegisters, typed-unset, typed-call}
+use Rattle.rebase.specs.Rebases.{unset, rebases}
+use Rattle.rebase.specs.declared.Rebase.{Rebase}
 use Rattle.rebase.specs.declared.Registers.{Registers}
+use Rattle.runs.specs.Runs.{begun, Walks}
 
-module _ (w : State Registers) (e : Each (stateWords w) stateFields) where
+-- ---- a state whose fields are such as their types have comes back from its bytes whole
+
+module _ (w : State Registers) (t : Typed TypedRegisters w) where
+  each : Each (stateWords w) stateFields
+  each =
+      let c = t .cursor in
+      let g = t .registers in
+      word-field (byte-field (word-field (word-field (word-field
+      (flag-field (flag-field (flag-field (byte-field (byte-field none (g .kind)) (g .segment)) (w .registers .typed)) (w .registers .segmented)) (w .cursor .ended))
+      (c .offset)) (c .advance)) (c .remaining)) (c .size)) (c .at)
+
   back : (i : ℕ) → i < 10 → wordAt (bytesOf (stateWords w)) i ≡ getD (stateWords w) i 0
-  back i h = word-back (stateWords w) i h (each-at e i h)
+  back i h = word-back (stateWords w) i h (each-at each i h)
 
   flag : (i : ℕ) (b : Bool) → i < 10 → getD (stateWords w) i 0 ≡ bit b → isSet (wordAt (bytesOf (stateWords w)) i) ≡ b
   flag i b h q = ap isSet (back i h ∙ q) ∙ flag-back b
 
-  pub whole : stateAt (bytesOf (stateWords w)) ≡ w
+  whole : stateAt (bytesOf (stateWords w)) ≡ w
   whole =
       λ j.
       state
@@ -41,7 +63,67 @@ module _ (w : State Registers) (e : Each (stateWords w) stateFields) where
         kind = back 9 (omega arith) j;
       })
 
-  -- so a call on the bytes of a state is a call on the state
-  pub carried : (s told : List ℕ) → length told ≡ 24 →
-      stepped states items (bytesOf (stateWords w)) told (call rebases s) ≡ stepTold states items (call rebases s w)
-  carried s told l = boundary.carried states items (call rebases s) w (fits-back e) whole told l
+-- ---- bytes that hold a state are those of that state
+
+module _ (s : List ℕ) (h : fits s stateFields ≡ true) where
+  most : (i : ℕ) → i < 10 → wordAt s i ≤ getD stateFields i 0
+  most = at-most stateFields s h
+
+  typed-at : Typed TypedRegisters (stateAt s)
+  typed-at =
+      record {
+        cursor =
+            record {
+              at = omega (arith, most 0 (omega arith));
+              size = omega (arith, most 1 (omega arith));
+              remaining = omega (arith, most 2 (omega arith));
+              advance = omega (arith, most 3 (omega arith));
+              offset = omega (arith, most 4 (omega arith));
+            };
+        registers = record { segment = omega (arith, most 8 (omega arith)); kind = omega (arith, most 9 (omega arith)) };
+      }
+
+  words : stateWords (stateAt s) ≡ wordsFrom s 0 10
+  unfolding wordsFrom
+  words =
+      λ j.
+      wordAt s 0
+      ∷ wordAt s 1
+      ∷ wordAt s 2
+      ∷ wordAt s 3
+      ∷ wordAt s 4
+      ∷ flag-whole (wordAt s 5) (most 5 (omega arith)) j
+      ∷ flag-whole (wordAt s 6) (most 6 (omega arith)) j
+      ∷ flag-whole (wordAt s 7) (most 7 (omega arith)) j
+      ∷ wordAt s 8
+      ∷ wordAt s 9
+      ∷ []
+
+faithful : Faithful states (Typed TypedRegisters)
+faithful =
+    record {
+      holds = λ w t. fits-back (each w t);
+      whole = whole;
+      typed = λ s b h. typed-at s h;
+      back = λ s b h. ap bytesOf (words s h) ∙ words-whole s b 10 (fits-long stateFields s h refl);
+    }
+
+long : Long items
+long x = length-bytes (itemWords x)
+
+-- ---- calls through the entry points
+
+module _ (s : List ℕ) (short : length s < 2 ^ 64) where
+  -- from a start on they say what the stream lists
+  pub calls-list : (size : ℕ) {w : State Registers} → begin size unset ≡ begun w → (state item : List ℕ) → length state ≡ 80 → length item ≡ 24 →
+      Walks (through states items (call rebases s)) (lent (started states state (begin size unset) .1) item) (recorded items (listing.heard (listing.listing rebases size unset s)))
+  calls-list size {w} e =
+      started-say states items (Typed TypedRegisters) faithful long (call rebases s) (typed-call s short) e
+      (typed-begin TypedRegisters size unset typed-unset e) (joined rebases s size unset w e)
+
+  -- a state out of range comes back as it came
+  pub out-of-range-back : (state item : List ℕ) → Bytes state → fits state stateFields ≡ true → length item ≡ 24 → inRange (stateAt state .cursor) (length s) ≡ false →
+      stepped states items state item (call rebases s) ≡ (19, state, items .blank)
+  out-of-range-back state item b h l r =
+      refused-back states items (Typed TypedRegisters) faithful long (call rebases s) (typed-call s short) state b h item l
+      (out-of-range rebases (stateAt state) s r)

@@ -11,7 +11,7 @@ use Rattle.numbers.specs.Digits.{fromDigits}
 use Rattle.numbers.specs.LittleEndian.{littleEndian, fieldAt}
 use Rattle.numbers.specs.Then.{thenNumber}
 use Rattle.packing.proofs.Words.{length-word, length-bytes}
-use Rattle.packing.specs.Fields.{u64, withinFrom, fits, isSet, bit}
+use Rattle.packing.specs.Fields.{flag, u8, u16, u64, withinFrom, fits, isSet, bit}
 use Rattle.packing.specs.Words.{wordAt, toDigits, wordBytes, bytesOf}
 
 digits-back : (n v : ℕ) → v < 256 ^ n → fromDigits 256 (toDigits 256 n v) ≡ v
@@ -49,6 +49,21 @@ word-back vs i h m =
 pub data Each : (words largest : List ℕ) → Type 0 where
   none : Each [] []
   one : {v most : ℕ} {vs rest : List ℕ} → v ≤ most → v ≤ u64 → Each vs rest → Each (v ∷ vs) (most ∷ rest)
+
+-- a field of each type
+module _ {vs rest : List ℕ} (e : Each vs rest) where
+  pub word-field : {v : ℕ} → v < 2 ^ 64 → Each (v ∷ vs) (u64 ∷ rest)
+  word-field {v} h = one {v = v} {most = u64} (omega arith) (omega arith) e
+
+  pub half-field : {v : ℕ} → v < 2 ^ 16 → Each (v ∷ vs) (u16 ∷ rest)
+  half-field {v} h = one {v = v} {most = u16} (omega arith) (omega arith) e
+
+  pub byte-field : {v : ℕ} → v < 2 ^ 8 → Each (v ∷ vs) (u8 ∷ rest)
+  byte-field {v} h = one {v = v} {most = u8} (omega arith) (omega arith) e
+
+  pub flag-field : (b : Bool) → Each (bit b ∷ vs) (flag ∷ rest)
+  flag-field true = one {v = 1} {most = flag} (omega arith) (omega arith) e
+  flag-field false = one {v = 0} {most = flag} (omega arith) (omega arith) e
 
 pub each-at : {vs largest : List ℕ} → Each vs largest → (i : ℕ) → i < length vs → getD vs i 0 ≤ u64
 each-at none i h = absurd (omega arith)

@@ -52,7 +52,7 @@ module _ {W X : Type 0} (S : States W) (I : Items X) (state told : List ℕ) (ca
   told-unfit h = rw (ne-eqb (length told) (I .long) h)
 
   module _ (l : length told ≡ I .long) where
-    by-state : {b : Bool} → S .holds state ≡ b → stepped S I state told call ≡ cond b (stepTold S I (call (S .value state))) (unfit, state, told)
+    pub by-state : {b : Bool} → S .holds state ≡ b → stepped S I state told call ≡ cond b (stepTold S I (call (S .value state))) (unfit, state, told)
     unfolding stepped
     by-state e = rw (eq-eqb (length told) (I .long) l, e)
 

@@ -77,15 +77,16 @@ module _ (largest s : List ℕ) where
   pub fits-long : {n : ℕ} → fits s largest ≡ true → 8 * length largest ≡ n → length s ≡ n
   fits-long e q = eqb-true (length s) (8 * length largest) (both e .0) ∙ q
 
-  -- a field of a type fits in it
-  module _ {i w : ℕ} (q : w ≡ wordAt s i) (e : fits s largest ≡ true) (h : i < length largest) where
-    at-most : w ≤ getD largest i 0
-    at-most =
-        let z : 0 + i ≡ i = omega arith in
-        rw q (subst (λ (k : ℕ). wordAt s k ≤ getD largest i 0) z (within-at s 0 largest (both e .1) i h))
+  -- a field is at most its largest value
+  pub at-most : fits s largest ≡ true → (i : ℕ) → i < length largest → wordAt s i ≤ getD largest i 0
+  at-most e i h =
+      let z : 0 + i ≡ i = omega arith in
+      subst (λ (k : ℕ). wordAt s k ≤ getD largest i 0) z (within-at s 0 largest (both e .1) i h)
 
+  -- so one of a type fits in it
+  module _ {i w : ℕ} (q : w ≡ wordAt s i) (e : fits s largest ≡ true) (h : i < length largest) where
     pub byte-fits : getD largest i 0 ≡ u8 → Fits w8 w
-    byte-fits m = record { fits = omega (arith, at-most, m) }
+    byte-fits m = record { fits = omega (arith, q, at-most e i h, m) }
 
     pub half-fits : getD largest i 0 ≡ u16 → Fits w16 w
-    half-fits m = record { fits = omega (arith, at-most, m) }
+    half-fits m = record { fits = omega (arith, q, at-most e i h, m) }

@@ -5,3 +5,4 @@ pub mod Signs
 pub mod Back
 pub mod Reading
 pub mod Whole
+pub mod Calls

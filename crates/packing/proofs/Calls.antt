@@ -1,0 +1,80 @@
+-- Calls in a row through an entry point say what calls of the walk say; and a state that a call hands back as it was given keeps its bytes.
+-- Assumes nothing.
+use Prim.Native.Nat.{ℕ}
+use mathlib.Core.Path.{_≡_, sym, ap, _∙_, subst}
+use mathlib.Core.Bool.{true, and-eq-true-iff}
+use mathlib.Core.List.{List}
+use native.Mathlib.Omega.{arith}
+use borrow.Author.Tests.{eq-eqb, ne-eqb, ltb-true}
+use lib.Dec.{ltb}
+use lib.ListN.{length}
+use Rattle.packing.specs.Boundary.{States, Items, itemTold, endTold, started, stepTold, stepped}
+use Rattle.packing.specs.Calls.{Lent, lent, heardBy, heard, through, recorded}
+use Rattle.packing.proofs.Boundary.{carried, by-state}
+use Rattle.packing.proofs.Whole.{Bytes}
+use Rattle.refusal.proofs.Numbered.{IsNumber}
+use Rattle.runs.proofs.Walks.{Hands}
+use Rattle.runs.specs.Runs.{Begin, begun, Answer, item, end, refused, Run, Walks, at-end, at-refusal, at-item}
+
+-- ---- states in bytes, both ways: of those whose fields are such as their types have (`Typed`), and of bytes that hold one
+
+pub record Faithful {W : Type 0} (S : States W) (Typed : W → Type 0) : Type 0 where
+  pub holds : (w : W) → Typed w → S .holds (S .bytes w) ≡ true
+  pub whole : (w : W) → Typed w → S .value (S .bytes w) ≡ w
+  pub typed : (s : List ℕ) → Bytes s → S .holds s ≡ true → Typed (S .value s)
+  pub back : (s : List ℕ) → Bytes s → S .holds s ≡ true → S .bytes (S .value s) ≡ s
+
+-- records of items have their length
+abbrev pub Long : {X : Type 0} → Items X → Type 0
+Long {X} I = (x : X) → length (I .bytes x) ≡ I .long
+
+-- ---- the number of a refusal is neither that of an item nor that of the end
+
+refused-by : (n : ℕ) (r : Lent) → IsNumber n → heardBy n r ≡ refused n r
+refused-by n r h =
+    let b = and-eq-true-iff (ltb 0 n) (ltb n 256) .0 h in
+    let above = ltb-true 0 n (b .0) in
+    let below = ltb-true n 256 (b .1) in
+    rw (ne-eqb n itemTold (λ e. omega (arith, above, e)), ne-eqb n endTold (λ e. omega (arith, below, e)))
+
+module _ {W X : Type 0} (S : States W) (I : Items X) (Typed : W → Type 0) (faithful : Faithful S Typed) (long : Long I) (call : W → Answer W X)
+    (hands : (w : W) → Typed w → Hands Typed IsNumber (call w)) where
+  -- a call on the bytes of a state is a call on the state
+  called : (w : W) → Typed w → (told : List ℕ) → length told ≡ I .long → {a : Answer W X} → call w ≡ a →
+      through S I call (lent (S .bytes w) told) ≡ heard (stepTold S I a)
+  called w t told l e =
+      ap heard (carried S I call w (faithful .holds w t) (faithful .whole w t) told l ∙ ap (stepTold S I) e)
+
+  handed : {w : W} → Typed w → {a : Answer W X} → call w ≡ a → Hands Typed IsNumber a
+  handed {w} t e = subst (Hands Typed IsNumber) e (hands w t)
+
+  -- calls through the entry point say what calls of the walk say
+  pub calls-say : {w : W} {r : Run X} → Walks call w r → Typed w → (told : List ℕ) → length told ≡ I .long →
+      Walks (through S I call) (lent (S .bytes w) told) (recorded I r)
+  unfolding recorded
+  calls-say {w} (at-end e) t told l = at-end (called w t told l e)
+  calls-say {w} (at-refusal {e = n} e) t told l = at-refusal (called w t told l e ∙ refused-by n _ (handed t e .1))
+  calls-say {w} (at-item {x = x} e p) t told l =
+      at-item (called w t told l e) (calls-say p (handed t e) (I .bytes x) (long x))
+
+  -- what a start has written
+  wrote : {b : Begin W} {w : W} → b ≡ begun w → (state : List ℕ) → length state ≡ S .long → started S state b ≡ (itemTold, S .bytes w)
+  unfolding started
+  wrote e state l = rw (eq-eqb (length state) (S .long) l, e)
+
+  -- and so from there on
+  pub started-say : {b : Begin W} {w : W} → b ≡ begun w → Typed w → {r : Run X} → Walks call w r → (state told : List ℕ) → length state ≡ S .long → length told ≡ I .long →
+      Walks (through S I call) (lent (started S state b .1) told) (recorded I r)
+  started-say e t {r} p state told l m =
+      subst (λ (q : ℕ × List ℕ). Walks (through S I call) (lent (q .1) told) (recorded I r)) (sym (wrote e state l)) (calls-say p t told m)
+
+  -- a state that comes back as it was given comes back as the bytes that were lent
+  module _ (state : List ℕ) (bytes : Bytes state) (h : S .holds state ≡ true) (told : List ℕ) (l : length told ≡ I .long) where
+    pub unchanged : {a : Answer W X} → call (S .value state) ≡ a → stepped S I state told call ≡ stepTold S I a
+    unchanged e = by-state S I state told call l h ∙ ap (stepTold S I) e
+
+    pub refused-back : {n : ℕ} → call (S .value state) ≡ refused n (S .value state) → stepped S I state told call ≡ (n, state, I .blank)
+    refused-back {n} e = unchanged e ∙ ap (λ (s : List ℕ). (n, s, I .blank)) (faithful .back state bytes h)
+
+    pub end-back : call (S .value state) ≡ end (S .value state) → stepped S I state told call ≡ (endTold, state, I .blank)
+    end-back e = unchanged e ∙ ap (λ (s : List ℕ). (endTold, s, I .blank)) (faithful .back state bytes h)

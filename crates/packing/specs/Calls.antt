@@ -1,0 +1,33 @@
+-- Calls in a row at the boundary to C. One caller lends the same two records each time, as the last call left them, and goes by the number
+-- that is answered.
+use Prim.Native.Nat.{ℕ}
+use mathlib.Core.Bool.{cond}
+use mathlib.Core.List.{List}
+use lib.Dec.{eqb}
+use Rattle.packing.specs.Boundary.{States, Items, itemTold, endTold, stepped}
+use Rattle.runs.specs.Runs.{Answer, item, end, refused, Run, stops, fails, gives}
+
+-- the bytes of the state and those of the item
+pub record Lent : Type 0 where
+  pub state : List ℕ
+  pub told : List ℕ
+
+abbrev pub lent : (state told : List ℕ) → Lent
+lent state told = record { state = state; told = told }
+
+-- what a step says to one who goes by its number: 0 is an item, whose record is then told; 256 the end; any other a refusal
+abbrev pub heardBy : (number : ℕ) → Lent → Answer Lent (List ℕ)
+heardBy number r = cond (eqb number itemTold) (item (r .told) r) (cond (eqb number endTold) (end r) (refused number r))
+
+abbrev pub heard : ℕ × List ℕ × List ℕ → Answer Lent (List ℕ)
+heard p = heardBy (p .0) (lent (p .1) (p .2))
+
+-- one call through the entry point
+abbrev pub through : {W X : Type 0} → States W → Items X → (W → Answer W X) → Lent → Answer Lent (List ℕ)
+through S I call r = heard (stepped S I (r .state) (r .told) call)
+
+-- a run of items, as a run of their records
+unfoldable pub recorded : {X : Type 0} → Items X → Run X → Run (List ℕ)
+recorded I stops = stops
+recorded I (fails number) = fails number
+recorded I (gives x r) = gives (I .bytes x) (recorded I r)
