@@ -23,7 +23,6 @@ use Rattle.packing.specs.Words.{wordAt, wordsFrom, bytesOf}
 use Rattle.packed_rebase.specs.Packed.{stateFields, stateWords, stateAt, states, itemWords, items}
 use Rattle.rebase.proofs.Typed.{TypedRegisters, typed-unset, typed-call}
 use Rattle.rebase.specs.Rebases.{unset, rebases}
-use Rattle.rebase.specs.declared.Rebase.{Rebase}
 use Rattle.rebase.specs.declared.Registers.{Registers}
 use Rattle.runs.specs.Runs.{begun, Walks}
 

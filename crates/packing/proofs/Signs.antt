@@ -2,6 +2,7 @@
 use Prim.Native.Nat.{ℕ, suc, _+_, _-_, _^_, _≤_, _<_}
 use mathlib.Core.Path.{_≡_, refl, sym, ap, _∙_, subst}
 use mathlib.Core.Bool.{true, false}
+use native.Mathlib.Decide.{decLt}
 use native.Mathlib.Omega.{arith}
 use borrow.Author.Tests.{lt-ltb, le-ltb, ltb-true}
 use lib.IntN.{ℤ, pos, negsuc, natAbs, _-ℤ_}
@@ -73,6 +74,13 @@ module _ (v : ℕ) where
     pub word-negative : toZ w64 (ofZ w64 (negsuc 0 -ℤ toZ w64 (2 ^ 64 - 1 - v))) ≡ signedOf v
     word-negative = minus-back (2 ^ 64 - 1 - v) (omega arith) ∙ sym negative
 
+  pub signed-fits : v < 2 ^ 64 → SFits w64 (signedOf v)
+  signed-fits i =
+      elim (decLt v (2 ^ 63)) [
+        | yes h ↦ rw (positive h) (record { sfits = h })
+        | no h ↦ rw (negative (omega arith) i) (record { sfits = omega arith })
+      ]
+
 -- ---- as a word and back
 
 pub signed-back : (z : ℤ) → SFits w64 z → signedOf (unsignedOf z) ≡ z
@@ -82,5 +90,13 @@ signed-back (negsuc n) f =
     let same : 2 ^ 64 - 1 - v ≡ n = omega (arith, f .sfits) in
     negative v (omega (arith, f .sfits)) (omega arith) ∙ ap negsuc same
 
+pub word-below : (z : ℤ) → SFits w64 z → unsignedOf z < 2 ^ 64
+word-below (pos n) f = omega (arith, f .sfits)
+word-below (negsuc n) f = omega arith
+
+-- an i32 is an i64
+pub widened : (z : ℤ) → SFits w32 z → SFits w64 z
+widened z f = subst (SFits w64) (toZ-ofZ f) (wide-fits z f)
+
 pub narrow-back : (z : ℤ) → SFits w32 z → signedOf (unsignedOf z) ≡ z
-narrow-back z f = signed-back z (subst (SFits w64) (toZ-ofZ f) (wide-fits z f))
+narrow-back z f = signed-back z (widened z f)
