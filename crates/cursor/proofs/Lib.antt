@@ -1,3 +1,4 @@
 pub mod Turns
 pub mod Bounds
 pub mod Typed
+pub mod Slips

@@ -1,0 +1,8 @@
+-- Immediates of special libraries: 0 is 0, and is not sign-extended. Assumes nothing.
+use mathlib.Core.Path.{_≡_, refl}
+use mathlib.Core.List.{[], _∷_, map}
+use lib.IntN.{pos, negℤ}
+use Rattle.operations.specs.Loader.{special}
+
+pub specials-say : map special (0 ∷ 15 ∷ 8 ∷ 1 ∷ []) ≡ pos 0 ∷ negℤ (pos 1) ∷ negℤ (pos 8) ∷ negℤ (pos 15) ∷ []
+specials-say = refl
