@@ -59,7 +59,7 @@ fn too_few_or_too_many_words() {
         ("weak 8", "weak"),
         ("lazy 8", "lazy"),
         ("preflight", "preflight"),
-        ("preflight rebase 8 FILE", "preflight"),
+        ("preflight rebase 8", "preflight"),
         ("exports", "exports"),
         ("exports FILE 0", "exports"),
         ("segments", "segments"),

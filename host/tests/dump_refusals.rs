@@ -93,6 +93,16 @@ fn a_preflight_has_16_sizes_up_to_2_to_the_62() {
 }
 
 #[test]
+fn a_preflight_without_sizes_has_no_place_inside() {
+    // S1 has its first place at byte 3; a type alone has none.
+    assert_eq!(listed("preflight rebase 8 FILE", &[S1]), refused(20, 3, 0));
+    assert_eq!(
+        listed("preflight rebase 8 FILE", &[b"\x11"]),
+        "pass  operations 1\n"
+    );
+}
+
+#[test]
 fn each_kind_of_stream_has_its_preflight() {
     // A name, segment 2 at 8, and, at byte 5, a bind: a weak stream has type and library set, a lazy
     // one the type, a plain one neither. In a rebase stream it adds 0, repeats 0 times, and at byte 3

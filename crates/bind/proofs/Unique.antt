@@ -1,13 +1,15 @@
--- What an answer says determines it: `told` and `startTold` lose nothing, so the contracts of starts and steps leave one answer and one
--- state each. Assumes nothing.
+-- What an answer says determines it: `told`, `startTold` and `effectTold` lose nothing, so the contracts of starts, steps and effects leave one
+-- answer and one state each. Assumes nothing.
 use mathlib.Core.Path.{_≡_, refl, ap}
 use Rattle.listing.specs.Call.{State}
+use Rattle.listing.specs.Machine.{Effect}
 use Rattle.refusal.proofs.Numbered.{refusalOf, refusal-back}
 use Rattle.refusal.proofs.Unique.{one-each}
 use Rattle.refusal.specs.declared.Refusal.{Refusal}
 use Rattle.runs.specs.Runs.{Begin, begun, notBegun, Answer, item, end, refused}
-use Rattle.bind.specs.Told.{startTold, told}
+use Rattle.bind.specs.Told.{startTold, told, effectTold}
 use Rattle.bind.specs.declared.Bind.{Bind}
+use Rattle.bind.specs.declared.BindEffect.{BindEffect}
 use Rattle.bind.specs.declared.BindStart.{BindStart}
 use Rattle.bind.specs.declared.BindStart.the-variants as start
 use Rattle.bind.specs.declared.BindStep.{BindStep}
@@ -41,3 +43,9 @@ start-one = one-each startTold startOf start-back
 
 pub told-one : (r q : BindStep) → told r ≡ told q → r ≡ q
 told-one = one-each told stepOf step-back
+
+abbrev effectOf : Effect Registers → BindEffect
+effectOf e = record { registers = e .registers; motion = e .motion }
+
+pub effect-one : (r q : BindEffect) → effectTold r ≡ effectTold q → r ≡ q
+effect-one = one-each effectTold effectOf (λ r. refl)

@@ -3,29 +3,31 @@ use crate::line::Out;
 use numbers::parts::part;
 use refusal::Refusal;
 
-// The names of the refusals in words, in the order of their numbers.
-const NAMES: [[u8; 19]; 21] = [
-    *b"pointer size       ",
-    *b"unknown opcode     ",
-    *b"faulty operand     ",
-    *b"ordinal too large  ",
-    *b"no segment         ",
-    *b"no type            ",
-    *b"no library         ",
-    *b"no symbol          ",
-    *b"faulty chains      ",
-    *b"unknown version    ",
-    *b"unsupported format ",
-    *b"beyond starts      ",
-    *b"pointer outside    ",
-    *b"faulty import      ",
-    *b"faulty node        ",
-    *b"child is open      ",
-    *b"too many open nodes",
-    *b"name too long      ",
-    *b"state out of range ",
-    *b"place outside      ",
-    *b"unfit sizes        ",
+const ROWS: usize = 21;
+
+// The names of the refusals in words, each behind its number.
+const NAMES: [[u8; 20]; ROWS] = [
+    *b"\x01pointer size       ",
+    *b"\x02unknown opcode     ",
+    *b"\x03faulty operand     ",
+    *b"\x04ordinal too large  ",
+    *b"\x05no segment         ",
+    *b"\x06no type            ",
+    *b"\x07no library         ",
+    *b"\x08no symbol          ",
+    *b"\x09faulty chains      ",
+    *b"\x0aunknown version    ",
+    *b"\x0bunsupported format ",
+    *b"\x0cbeyond starts      ",
+    *b"\x0dpointer outside    ",
+    *b"\x0efaulty import      ",
+    *b"\x0ffaulty node        ",
+    *b"\x10child is open      ",
+    *b"\x11too many open nodes",
+    *b"\x12name too long      ",
+    *b"\x13state out of range ",
+    *b"\x14place outside      ",
+    *b"\x15unfit sizes        ",
 ];
 
 // How a list ends: all is listed; there is more; nothing is listed, and the preflight passes; or a refusal, with its
@@ -73,19 +75,31 @@ fn refused(lines: &mut [u8], out: Out, e: Refusal, place: u64, index: u64) {
 }
 
 fn named(lines: &mut [u8], out: Out, number: u8) -> Out {
-    if number < 1 {
-        return out;
-    }
-    if 21 < number {
+    let row = row_of(number);
+    if ROWS <= row {
         return out;
     }
     let names = NAMES;
-    let name = names[number as usize - 1];
+    let name = names[row];
     titled(lines, out, &name)
 }
 
-fn titled(lines: &mut [u8], out: Out, name: &[u8; 19]) -> Out {
-    let s = &name[..];
+// The row that has a number; behind them all where none has.
+fn row_of(number: u8) -> usize {
+    let names = NAMES;
+    let mut row = 0;
+    while row < ROWS {
+        let name = names[row];
+        if name[0] == number {
+            return row;
+        }
+        row += 1;
+    }
+    row
+}
+
+fn titled(lines: &mut [u8], out: Out, name: &[u8; 20]) -> Out {
+    let s = &name[1..];
     out.quoted(lines, b"  name ", part(s, 0, trimmed(s)))
 }
 

@@ -38,8 +38,8 @@ struct Sizes {
 }
 
 pub(crate) fn judge(w: Words, room: &mut [u8]) {
-    if w.count < 5 {
-        usage::of(b"preflight rebase|bind|weak|lazy POINTER_SIZE FILE SIZE...");
+    if w.count < 4 {
+        usage::of(b"preflight rebase|bind|weak|lazy POINTER_SIZE FILE [SIZE...]");
         return;
     }
     let kind = kind_of(w.at[1]);

@@ -7,7 +7,7 @@ pub(crate) fn say(text: &[u8]) {
 
 pub(crate) fn all() {
     say(b"usage: dump rebase|bind|weak|lazy POINTER_SIZE FILE\n");
-    say(b"       dump preflight rebase|bind|weak|lazy POINTER_SIZE FILE SIZE...\n");
+    say(b"       dump preflight rebase|bind|weak|lazy POINTER_SIZE FILE [SIZE...]\n");
     say(b"       dump exports FILE\n");
     say(b"       dump segments FILE\n");
     say(b"       dump imports FILE\n");

@@ -42,6 +42,22 @@ interleaved =
 abbrev pub beyondList : Sample
 beyondList = record { starts = 0x01 ∷ 0x80 ∷ []; bytes = []; count = 1; format = 2; base = 0; says = fails 12 }
 
+-- a page that has no chain, though its start has the mark of a list
+abbrev pub noChain : Sample
+noChain = record { starts = 0xff ∷ 0xff ∷ []; bytes = []; count = 1; format = 2; base = 0; says = stops }
+
+-- a list that is the page's own start: index 0, and there offset 0 and the mark of the last chain
+abbrev pub ownList : Sample
+ownList =
+    record {
+      starts = 0x00 ∷ 0x80 ∷ [];
+      bytes = 0x10 ∷ 0x00 ∷ 0x00 ∷ 0x00 ∷ [];
+      count = 1;
+      format = 3;
+      base = 0;
+      says = gives (fixed 0 (rebase 0x10)) stops;
+    }
+
 -- a pointer of eight bytes in seven
 abbrev pub onePast : Sample
 onePast = record { starts = 0x00 ∷ 0x00 ∷ []; bytes = 0x10 ∷ 0x00 ∷ 0x00 ∷ 0x00 ∷ 0x20 ∷ 0x01 ∷ 0x00 ∷ []; count = 1; format = 2; base = 0; says = fails 13 }
@@ -56,6 +72,8 @@ abbrev pub samples : List Sample
 samples =
     interleaved
     ∷ beyondList
+    ∷ noChain
+    ∷ ownList
     ∷ onePast
     ∷ high 2 0x10 0x1200000000000000
     ∷ high 2 0x20 (2 ^ 64 - 0x10)
