@@ -10,6 +10,7 @@ use Rattle.numbers.proofs.Laws.{Within}
 use Rattle.operations.proofs.Laws.{operation-read, no-bytes-left}
 use Rattle.operations.proofs.Rows.{no-byte}
 use Rattle.operations.specs.Table.{Parsed, operation, faulty, noBytes, operationAt}
+use Rattle.refusal.specs.declared.Refusal.{Refusal}
 
 module _ (M : Machine) (s : List ℕ) where
   -- what stands at a place
@@ -53,9 +54,14 @@ module _ (M : Machine) (s : List ℕ) where
     pub inside : next ≤ length s
     pub same : streamAt M s next ≡ rest
 
+  -- what is refused at a place
+  pub record Unread (at position : ℕ) (e : Refusal) : Type 0 where
+    pub here : position ≡ at
+    pub parsed : there at ≡ faulty e
+
   abbrev IfStream : ℕ → Stream (M .Op) → Type 0
   IfStream at out = length s ≤ at
-  IfStream at (bad e position) = Unit {0}
+  IfStream at (bad e position) = Unread at position e
   IfStream at (one position op next rest) = Behind at position op next rest
 
   if-before : (at : ℕ) (p : Parsed (M .Op)) → there at ≡ p → IfStream at (before M at (streamAt M s) p)
@@ -69,7 +75,7 @@ module _ (M : Machine) (s : List ℕ) where
         inside = w .inside;
         same = refl;
       }
-  if-before at (faulty e) f = tt
+  if-before at (faulty e) f = record { here = omega arith; parsed = f }
   if-before at noBytes e = no-bytes-left s at (M .table) e
 
   if-stream : (at : ℕ) {xs : Stream (M .Op)} → streamAt M s at ≡ xs → IfStream at xs
@@ -80,3 +86,6 @@ module _ (M : Machine) (s : List ℕ) where
 
   pub is-out : (at : ℕ) → streamAt M s at ≡ out → length s ≤ at
   is-out at e = if-stream at e
+
+  pub is-bad : (at : ℕ) {e : Refusal} {position : ℕ} → streamAt M s at ≡ bad e position → Unread at position e
+  is-bad at e = if-stream at e

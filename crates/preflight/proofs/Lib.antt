@@ -2,6 +2,7 @@ pub mod Small
 pub mod Verdicts
 pub mod Flights
 pub mod Loops
+pub mod Faults
 pub mod Machines
 pub mod Unique
 pub mod Agrees

@@ -34,6 +34,11 @@ module _ (M : Machine) (size : ℕ) (sizes s : List ℕ) where
   abbrev pub flight : (at k : ℕ) → M .Reg → (o : ℕ) → Verdict
   flight at k g o = verdict M size sizes (listingOf M size (streamAt M s at) k g o)
 
+  -- by what stands there
+  pub flight-by : (at k : ℕ) (g : M .Reg) (o : ℕ) {q : Parsed (M .Op)} → operationAt (M .table) s at ≡ q →
+      flight at k g o ≡ verdict M size sizes (listingOf M size (before M at (streamAt M s) q) k g o)
+  flight-by at k g o e = ap (λ (xs : Stream (M .Op)). verdict M size sizes (listingOf M size xs k g o)) (stream-by M s at e)
+
   -- the invariant: the verdict is the one on the operations from here on
   pub record Flying (v : Verdict) (at k : ℕ) (g : M .Reg) (o : ℕ) : Type 0 where
     pub same : v ≡ flight at k g o
@@ -54,8 +59,7 @@ module _ {M : Machine} (P : Placed M) {size : ℕ} {sizes s : List ℕ} {v : Ver
     {x : Parsed (M .Op)} (p : x ≡ operationAt (M .table) s at) where
   -- by what is parsed
   pub parsed-as : {q : Parsed (M .Op)} {y : Verdict} → x ≡ q → y ≡ verdict M size sizes (listingOf M size (before M at (streamAt M s) q) k g o) → y ≡ v
-  parsed-as f h =
-      h ∙ sym (r .same ∙ ap (λ (xs : Stream (M .Op)). verdict M size sizes (listingOf M size xs k g o)) (stream-by M s at (sym p ∙ f)))
+  parsed-as f h = h ∙ sym (r .same ∙ flight-by M size sizes s at k g o (sym p ∙ f))
 
   module _ {op : M .Op} {next : ℕ} (q : x ≡ operation op next) where
     pub further : length s - next < length s - at

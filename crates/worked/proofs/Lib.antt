@@ -1,3 +1,4 @@
 pub mod Hold
+pub mod Walks
 pub mod Tries
 pub mod Fixups

@@ -39,11 +39,12 @@ allNamed bytes (gives b rest) = gives (named bytes b) (allNamed bytes rest)
 pub data Example : Type 0 where
   uleb : ℕ → List ℕ → Example
   sleb : ℤ → List ℕ → Example
-  -- streams, of pointer size 8: what calls from a start on say
+  -- streams, of pointer size 8: what they list, as a caller hears it; that calls from a start on say it is `Called`, Called.antt
   rebased : List ℕ → Run Rebase → Example
   bound : List ℕ → Run Symbol → Example  -- plain
-  -- and the preflight of a rebase stream of pointer size 8, with the sizes of the segments
+  -- and the preflights of such streams, with the sizes of the segments
   preflown : (bytes sizes : List ℕ) → Verdict → Example
+  preflownBinds : (bytes sizes : List ℕ) → Verdict → Example
 
 pub data Meaning : Type 0 where
   unsigned : Number → Meaning
@@ -59,6 +60,7 @@ defined (sleb z bytes) = signed (slebAt bytes 0)
 defined (rebased bytes run) = places (heard (listing rebases 8 rebase.unset bytes))
 defined (bound bytes run) = symbols (allNamed bytes (heard (listing binds 8 bind.plainly bytes)))
 defined (preflown bytes sizes said) = verdict (preflight rebases rebase.unset 8 sizes bytes)
+defined (preflownBinds bytes sizes said) = verdict (preflight binds bind.plainly 8 sizes bytes)
 
 -- what the document says: of a number, that it is this one and the bytes are read to their end
 abbrev pub documented : Example → Meaning
@@ -67,6 +69,7 @@ documented (sleb z bytes) = signed (SignedValue z (length bytes))
 documented (rebased bytes run) = places run
 documented (bound bytes run) = symbols run
 documented (preflown bytes sizes said) = verdict said
+documented (preflownBinds bytes sizes said) = verdict said
 
 abbrev minus : ℕ → ℤ
 minus n = negℤ (pos n)
@@ -96,4 +99,19 @@ examples =
     (0 ∷ 0 ∷ 24 ∷ []) (pass 3) ∷
     preflown (0x11 ∷ 0x22 ∷ 0x10 ∷ 0x80 ∷ 0x04 ∷ 0xf0 ∷ 0xff ∷ 0xff ∷ 0xff ∷ 0xff ∷ 0xff ∷ 0xff ∷ 0xff ∷ 0xff ∷ 0x01 ∷ [])
     (0 ∷ 0 ∷ 24 ∷ []) (fault 20 3 3) ∷
+    -- faults behind other operations; each has the byte position where its own operation starts, and index 0 but for 20
+    -- 2: behind an operation of three bytes, the byte 90, which is no opcode of a rebase stream
+    preflown (0x22 ∷ 0x80 ∷ 0x01 ∷ 0x90 ∷ []) (0 ∷ 0 ∷ 40 ∷ []) (fault 2 3 0) ∷
+    -- 3: behind the type, a segment whose offset is cut off
+    preflown (0x11 ∷ 0x22 ∷ 0x80 ∷ []) (0 ∷ 0 ∷ 40 ∷ []) (fault 3 1 0) ∷
+    -- 4: in a bind stream, behind the ordinal 2147483647, the ordinal 2147483648
+    preflownBinds (0x20 ∷ 0xff ∷ 0xff ∷ 0xff ∷ 0xff ∷ 0x07 ∷ 0x20 ∷ 0x80 ∷ 0x80 ∷ 0x80 ∷ 0x80 ∷ 0x08 ∷ []) [] (fault 4 6 0) ∷
+    -- 5: behind the type, a place with no segment set; there are no sizes, and 5 comes before 20
+    preflown (0x11 ∷ 0x51 ∷ []) [] (fault 5 1 0) ∷
+    -- 6: behind a segment and a repeat of no places, a place with no type set
+    preflown (0x22 ∷ 0x10 ∷ 0x60 ∷ 0x00 ∷ 0x51 ∷ []) (0 ∷ 0 ∷ 40 ∷ []) (fault 6 4 0) ∷
+    -- 8: in a bind stream, behind library, type and segment, a place with no symbol set
+    preflownBinds (0x11 ∷ 0x51 ∷ 0x72 ∷ 0x08 ∷ 0x90 ∷ []) (0 ∷ 0 ∷ 40 ∷ []) (fault 8 4 0) ∷
+    -- 20: behind the places 16 and 24, a repeat from 32 on, whose second place, 40, ends at 48 in a segment of 47 bytes
+    preflown (0x11 ∷ 0x22 ∷ 0x10 ∷ 0x52 ∷ 0x53 ∷ []) (0 ∷ 0 ∷ 47 ∷ []) (fault 20 4 1) ∷
     []

@@ -1,3 +1,4 @@
 pub mod Examples
+pub mod Called
 pub mod Tries
 pub mod Fixups
