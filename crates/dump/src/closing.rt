@@ -5,29 +5,54 @@ use refusal::Refusal;
 
 const ROWS: usize = 21;
 
-// The names of the refusals in words, each behind its number.
-const NAMES: [[u8; 20]; ROWS] = [
-    *b"\x01pointer size       ",
-    *b"\x02unknown opcode     ",
-    *b"\x03faulty operand     ",
-    *b"\x04ordinal too large  ",
-    *b"\x05no segment         ",
-    *b"\x06no type            ",
-    *b"\x07no library         ",
-    *b"\x08no symbol          ",
-    *b"\x09faulty chains      ",
-    *b"\x0aunknown version    ",
-    *b"\x0bunsupported format ",
-    *b"\x0cbeyond starts      ",
-    *b"\x0dpointer outside    ",
-    *b"\x0efaulty import      ",
-    *b"\x0ffaulty node        ",
-    *b"\x10child is open      ",
-    *b"\x11too many open nodes",
-    *b"\x12name too long      ",
-    *b"\x13state out of range ",
-    *b"\x14place outside      ",
-    *b"\x15unfit sizes        ",
+// The refusals by their numbers.
+const NUMBERS: [u8; ROWS] = [
+    1,
+    2,
+    3,
+    4,
+    5,
+    6,
+    7,
+    8,
+    9,
+    10,
+    11,
+    12,
+    13,
+    14,
+    15,
+    16,
+    17,
+    18,
+    19,
+    20,
+    21,
+];
+
+// Their names in words, in the same order.
+const NAMES: [[u8; 19]; ROWS] = [
+    *b"pointer size       ",
+    *b"unknown opcode     ",
+    *b"faulty operand     ",
+    *b"ordinal too large  ",
+    *b"no segment         ",
+    *b"no type            ",
+    *b"no library         ",
+    *b"no symbol          ",
+    *b"faulty chains      ",
+    *b"unknown version    ",
+    *b"unsupported format ",
+    *b"beyond starts      ",
+    *b"pointer outside    ",
+    *b"faulty import      ",
+    *b"faulty node        ",
+    *b"child is open      ",
+    *b"too many open nodes",
+    *b"name too long      ",
+    *b"state out of range ",
+    *b"place outside      ",
+    *b"unfit sizes        ",
 ];
 
 // How a list ends: all is listed; there is more; nothing is listed, and the preflight passes; or a refusal, with its
@@ -86,11 +111,10 @@ fn named(lines: &mut [u8], out: Out, number: u8) -> Out {
 
 // The row that has a number; behind them all where none has.
 fn row_of(number: u8) -> usize {
-    let names = NAMES;
-    let mut row = 0;
+    let numbers = NUMBERS;
+    let mut row: usize = 0;
     while row < ROWS {
-        let name = names[row];
-        if name[0] == number {
+        if numbers[row] == number {
             return row;
         }
         row += 1;
@@ -98,8 +122,8 @@ fn row_of(number: u8) -> usize {
     row
 }
 
-fn titled(lines: &mut [u8], out: Out, name: &[u8; 20]) -> Out {
-    let s = &name[1..];
+fn titled(lines: &mut [u8], out: Out, name: &[u8; 19]) -> Out {
+    let s = &name[..];
     out.quoted(lines, b"  name ", part(s, 0, trimmed(s)))
 }
 
