@@ -1,6 +1,6 @@
--- What is known of a child that is found. Assumes nothing.
-use Prim.Native.Nat.{ℕ, _+_, _≤_}
-use mathlib.Core.Path.{_≡_, refl, sym, _∙_, subst}
+-- What is known of a child that is found, or refused. Assumes nothing.
+use Prim.Native.Nat.{ℕ, _+_, _-_, _^_, _≤_, _<_}
+use mathlib.Core.Path.{_≡_, refl, sym, ap, _∙_, subst}
 use mathlib.Core.Bool.{Bool, true, false, cond}
 use mathlib.Core.List.{List}
 use native.Mathlib.Omega.{arith}
@@ -11,6 +11,8 @@ use Rattle.numbers.proofs.Laws.{uleb-read, string-read}
 use Rattle.numbers.proofs.Then.{by-number, by-text}
 use Rattle.numbers.specs.Leb128.{ulebAt}
 use Rattle.numbers.specs.Strings.{stringAt}
+use Rattle.refusal.specs.Numbers.{numberOf}
+use Rattle.refusal.specs.declared.Refusal.{Refusal}
 use Rattle.refusal.specs.declared.Refusal.the-variants.{FaultyNode, ChildIsOpen, NameTooLong}
 use Rattle.trie.specs.Child.{thenEdge, thenNode, childAt}
 use Rattle.trie.specs.ExportsTrie.{thenExport, exportAt, countedAt, nodeAt, edgeAt}
@@ -33,13 +35,19 @@ use Rattle.trie.specs.declared.node.Terminal.the-variants as terminal
 pub record EdgeIn (s : List ℕ) (e : Edge) : Type 0 where
   pub next : e .next ≤ length s
   pub inside : e .place + e .length ≤ length s
+  pub offset : e .offset < 2 ^ 64
+
+-- its children are counted by the byte before its first edge
+pub record NodeIn (s : List ℕ) (n : Node) : Type 0 where
+  pub inside : n .place ≤ length s
+  pub count : n .children ≡ getD s (n .place - 1) 0
 
 abbrev IfEdge : List ℕ → EdgeRead → Type 0
 IfEdge s (edge.Found e) = EdgeIn s e
 IfEdge s edge.Fault = Unit {0}
 
 abbrev IfNode : List ℕ → NodeRead → Type 0
-IfNode s (node.Found n) = n .place ≤ length s
+IfNode s (node.Found n) = NodeIn s n
 IfNode s node.Fault = Unit {0}
 
 module _ (s : List ℕ) where
@@ -51,7 +59,8 @@ module _ (s : List ℕ) where
       let t = string-read s at (sym f) refl in
       by-number (ulebAt s next) _ _ (IfEdge s) tt
       (λ offset behind g.
-      record { next = uleb-read s next (sym g) refl .within .inside; inside = omega (arith, t .ends, t .within .inside) }))
+      let u = uleb-read s next (sym g) refl in
+      record { next = u .within .inside; inside = omega (arith, t .ends, t .within .inside); offset = u .below }))
 
   pub edge-in : (at : ℕ) {e : Edge} → edgeAt s at ≡ edge.Found e → EdgeIn s e
   edge-in at f = subst (IfEdge s) f (edge-by at)
@@ -61,7 +70,10 @@ module _ (s : List ℕ) where
   counted-by t at = by (ltb at (length s)) refl
     where
       by : (b : Bool) → ltb at (length s) ≡ b → IfNode s (cond b (node.Found (record { terminal = t; children = getD s at 0; place = at + 1 })) node.Fault)
-      by true f = let h = ltb-true at (length s) f in omega arith
+      by true f =
+          let h = ltb-true at (length s) f in
+          let e : at ≡ at + 1 - 1 = omega arith in
+          record { inside = omega arith; count = ap (λ (i : ℕ). getD s i 0) e }
       by false f = tt
 
   node-by : (offset : ℕ) → IfNode s (nodeAt s offset)
@@ -83,10 +95,14 @@ module _ (s : List ℕ) where
       area at size true = exports at size (exportAt (take (at + size) s) at)
       area at size false = tt
 
-  pub node-in : (offset : ℕ) {n : Node} → nodeAt s offset ≡ node.Found n → n .place ≤ length s
+  pub node-in : (offset : ℕ) {n : Node} → nodeAt s offset ≡ node.Found n → NodeIn s n
   node-in offset f = subst (IfNode s) f (node-by offset)
 
--- ---- a child that is found
+-- ---- a child that is found, or refused
+
+-- the number of a refusal that comes of the trie
+abbrev pub OfTrie : ℕ → Type 0
+OfTrie number = (15 ≤ number) × (number ≤ 18)
 
 pub record Read (s : List ℕ) (room : ℕ) (ancestors : List ℕ) (kept place : ℕ) (e : Edge) (n : Node) : Type 0 where
   pub edge : edgeAt s place ≡ edge.Found e
@@ -96,18 +112,18 @@ pub record Read (s : List ℕ) (room : ℕ) (ancestors : List ℕ) (kept place :
 module _ (s : List ℕ) (room : ℕ) (ancestors : List ℕ) (kept place : ℕ) where
   abbrev IfRead : Child → Type 0
   IfRead (Found e n) = Read s room ancestors kept place e n
-  IfRead (Refused x) = Unit {0}
+  IfRead (Refused x) = OfTrie (numberOf x)
 
   node-step : (e : Edge) → edgeAt s place ≡ edge.Found e → kept + e .length ≤ room → (x : NodeRead) → nodeAt s (e .offset) ≡ x
       → IfRead (thenNode x (Refused FaultyNode) (λ n. Found e n))
   unfolding thenNode
   node-step e f h (node.Found n) g = record { edge = f; fits = h; node = g }
-  node-step e f h node.Fault g = tt
+  node-step e f h node.Fault g = (omega arith, omega arith)
 
   tests : (e : Edge) → edgeAt s place ≡ edge.Found e → (a b : Bool) → ltb room (kept + e .length) ≡ a
       → IfRead (cond a (Refused NameTooLong) (cond b (Refused ChildIsOpen) (thenNode (nodeAt s (e .offset)) (Refused FaultyNode) (λ n. Found e n))))
-  tests e f true b g = tt
-  tests e f false true g = tt
+  tests e f true b g = (omega arith, omega arith)
+  tests e f false true g = (omega arith, omega arith)
   tests e f false false g = node-step e f (ltb-false room (kept + e .length) g) (nodeAt s (e .offset)) refl
 
   child-by : IfRead (childAt s room ancestors kept place)
@@ -117,7 +133,10 @@ module _ (s : List ℕ) (room : ℕ) (ancestors : List ℕ) (kept place : ℕ) w
       by : (x : EdgeRead) → edgeAt s place ≡ x
           → IfRead (thenEdge x (Refused FaultyNode) (λ e. cond (ltb room (kept + e .length)) (Refused NameTooLong) (cond (isOneOf (e .offset) ancestors) (Refused ChildIsOpen) (thenNode (nodeAt s (e .offset)) (Refused FaultyNode) (λ n. Found e n)))))
       by (edge.Found e) f = tests e f (ltb room (kept + e .length)) (isOneOf (e .offset) ancestors) refl
-      by edge.Fault f = tt
+      by edge.Fault f = (omega arith, omega arith)
 
   pub child-read : {r : Child} {e : Edge} {n : Node} → r ≡ childAt s room ancestors kept place → r ≡ Found e n → Read s room ancestors kept place e n
   child-read f g = subst IfRead (sym f ∙ g) child-by
+
+  pub child-refused : {x : Refusal} → childAt s room ancestors kept place ≡ Refused x → OfTrie (numberOf x)
+  child-refused f = subst IfRead f child-by

@@ -203,6 +203,26 @@ module _ (s : List ℕ) where
     pub call-course : w .ended ≡ false → Course w limit 0 w b (call s limit w b)
     call-course e = subst (Course w limit 0 w b) (sym (goes-on e)) (go-course limit w b)
 
+  -- one that is out of range comes back as it came
+  pub out-stays : (limit : ℕ) (w : TrieWalk) (b : List ℕ) → outOfRange (w .places) (w .lengths) (openNodes (w .begun) (w .depth)) (length s) (length b) ≡ true
+      → call s limit w b ≡ replied (refused (numberOf StateOutOfRange)) w 0 b
+  unfolding call
+  out-stays limit w b out =
+      ap (λ (c : Bool). cond c (replied (refused (numberOf StateOutOfRange)) w 0 b) (cond (w .ended) (replied end w 0 b) (goOn s limit w b))) out
+
+-- what is shown of each case holds of a call
+module _ (s : List ℕ) (limit : ℕ) (w : TrieWalk) (b : List ℕ) (Q : Reply × List ℕ → Type 0) where
+  pub call-by : (outOfRange (w .places) (w .lengths) (openNodes (w .begun) (w .depth)) (length s) (length b) ≡ true → Q (replied (refused (numberOf StateOutOfRange)) w 0 b))
+      → (InRange s (length b) w → w .ended ≡ true → Q (replied end w 0 b))
+      → (InRange s (length b) w → w .ended ≡ false → Course s w limit 0 w b (call s limit w b) → Q (call s limit w b))
+      → Q (call s limit w b)
+  call-by f g h = by (outOfRange (w .places) (w .lengths) (openNodes (w .begun) (w .depth)) (length s) (length b)) (w .ended) refl refl
+    where
+      by : (c d : Bool) → outOfRange (w .places) (w .lengths) (openNodes (w .begun) (w .depth)) (length s) (length b) ≡ c → w .ended ≡ d → Q (call s limit w b)
+      by true d r e = subst Q (sym (out-stays s limit w b r)) (f r)
+      by false true r e = subst Q (sym (ended-stays s limit w b r e)) (g r e)
+      by false false r e = h r e (call-course s limit w b r e)
+
 -- ---- the answers that end a walk
 
 abbrev pub halts : Answer → Bool

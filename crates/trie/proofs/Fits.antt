@@ -13,7 +13,7 @@ use Rattle.numbers.proofs.Picks.{neither}
 use Rattle.numbers.proofs.Laws.{part-length}
 use Rattle.numbers.specs.Parts.{partOf}
 use Rattle.trie.proofs.Ahead.{put-length}
-use Rattle.trie.proofs.Children.{EdgeIn, edge-in, node-in, Read, child-read}
+use Rattle.trie.proofs.Children.{EdgeIn, edge-in, NodeIn, node-in, Read, child-read}
 use Rattle.trie.proofs.Course.{next, next-by, IfReached, InRange}
 use Rattle.trie.proofs.Visits.{still-at-most}
 use Rattle.trie.specs.Call.{closed, onTop, opened, childOf, childName, childOpened, edgePut}
@@ -77,14 +77,34 @@ module _ (xs : List ℕ) (i v bound : ℕ) (h : v ≤ bound) where
         | no l ↦ let e = ap (λ (ys : List ℕ). getD ys i 0) (set-out xs i v (omega arith)) ∙ List·getD-eq-default xs 0 {n = i} (omega arith) in omega arith
       ]
 
-  set-old : (m : ℕ) → getD xs m 0 ≤ bound → getD (set xs i v) m 0 ≤ bound
+  pub set-old : (m : ℕ) → getD xs m 0 ≤ bound → getD (set xs i v) m 0 ≤ bound
   set-old m k =
       elim (ℕ-discrete m i) [
         | yes e ↦ rw e set-new
         | no e ↦ rw (getD-set-other xs i m v 0 e) k
       ]
 
--- ---- it stays so
+-- ---- a child that may be opened: what was read of it lies in the bytes, and its name fits the buffer
+
+module _ (s : List ℕ) (w : TrieWalk) (b : List ℕ) (e : Edge) (n : Node) (g : childOf s (length b) (closed w) ≡ Found e n) where
+  abbrev kept : ℕ
+  kept = onTop (closed w) (w .lengths)
+
+  pub read : Read s (length b) (topDown (w .offsets) (stillOpen (w .left) (w .depth))) kept (onTop (closed w) (w .places)) e n
+  read = child-read s (length b) (topDown (w .offsets) (stillOpen (w .left) (w .depth))) kept (onTop (closed w) (w .places)) refl g
+
+  pub within : EdgeIn s e
+  within = edge-in s (onTop (closed w) (w .places)) (read .edge)
+
+  pub counted : NodeIn s n
+  counted = node-in s (e .offset) (read .node)
+
+  pub buffer-long : length (edgePut s (closed w) e b) ≡ length b
+  buffer-long =
+      let p = part-length s (e .place) (e .length) (within .inside) in
+      put-length (partOf s (e .place) (e .length)) b kept (omega (arith, p, read .fits))
+
+-- ---- a state in range stays so
 
 pub record Sound (s : List ℕ) (room : ℕ) (w : TrieWalk) (b : List ℕ) : Type 0 where
   pub long : length b ≡ room
@@ -116,20 +136,14 @@ module _ (s : List ℕ) (room : ℕ) (w : TrieWalk) (b : List ℕ) (h : Sound s 
         }
 
     module _ (z : stillOpen (w .left) (w .depth) ≡ 0 → ⊥) (e : Edge) (n : Node) (g : childOf s (length b) (closed w) ≡ Found e n) (l : stillOpen (w .left) (w .depth) < most) where
-      abbrev kept : ℕ
-      kept = onTop (closed w) (w .lengths)
+      place-in : n .place ≤ length s
+      place-in = counted s w b e n g .inside
 
-      pub read : Read s (length b) (topDown (w .offsets) d) kept (onTop (closed w) (w .places)) e n
-      read = child-read s (length b) (topDown (w .offsets) d) kept (onTop (closed w) (w .places)) refl g
-
-      pub within : EdgeIn s e
-      within = edge-in s (onTop (closed w) (w .places)) (read .edge)
-
-      pub place-in : n .place ≤ length s
-      place-in = node-in s (e .offset) (read .node)
+      next-in : e .next ≤ length s
+      next-in = within s w b e n g .next
 
       name-fits : childName (closed w) e ≤ room
-      name-fits = omega (arith, read .fits, h .long)
+      name-fits = omega (arith, read s w b e n g .fits, h .long)
 
       at-or-below : (P : ℕ → Type 0) → P d → ((i : ℕ) → i < d → P i) → (i : ℕ) → i < d + 1 → P i
       at-or-below P p q i k =
@@ -138,23 +152,18 @@ module _ (s : List ℕ) (room : ℕ) (w : TrieWalk) (b : List ℕ) (h : Sound s 
             | no m ↦ let j : i ≡ d = omega arith in subst P (sym j) p
           ]
 
-      pub buffer-long : length (edgePut s (closed w) e b) ≡ length b
-      buffer-long =
-          let p = part-length s (e .place) (e .length) (within .inside) in
-          put-length (partOf s (e .place) (e .length)) b kept (omega (arith, p, read .fits))
-
       sound-child : Sound s room (childOpened (closed w) e n) (edgePut s (closed w) e b)
       sound-child =
           let f = sound-closed .fit in
           record {
-            long = buffer-long ∙ h .long;
+            long = buffer-long s w b e n g ∙ h .long;
             going = h .going;
             fit = record {
               few = omega arith;
               places = at-or-below (λ i. getD (set (set (w .places) (d - 1) (e .next)) d (n .place)) i 0 ≤ length s)
                   (set-new (set (w .places) (d - 1) (e .next)) d (n .place) (length s) place-in)
                   (λ i k. set-old (set (w .places) (d - 1) (e .next)) d (n .place) (length s) place-in i
-                  (set-old (w .places) (d - 1) (e .next) (length s) (within .next) i (f .places i (omega (arith, count-closed)))));
+                  (set-old (w .places) (d - 1) (e .next) (length s) next-in i (f .places i (omega (arith, count-closed)))));
               lengths = at-or-below (λ i. getD (set (w .lengths) d (childName (closed w) e)) i 0 ≤ room)
                   (set-new (w .lengths) d (childName (closed w) e) room name-fits)
                   (λ i k. set-old (w .lengths) d (childName (closed w) e) room name-fits i (f .lengths i (omega (arith, count-closed))));
@@ -168,7 +177,7 @@ module _ (s : List ℕ) (room : ℕ) (w : TrieWalk) (b : List ℕ) (h : Sound s 
         going = h .going;
         fit = record {
           few = omega arith;
-          places = λ i l. let q : i ≡ 0 = omega arith in rw q (set-new (w .places) 0 (n .place) (length s) (node-in s 0 e));
+          places = λ i l. let q : i ≡ 0 = omega arith in rw q (set-new (w .places) 0 (n .place) (length s) (node-in s 0 e .inside));
           lengths = λ i l. let q : i ≡ 0 = omega arith in rw q (set-new (w .lengths) 0 0 room (omega arith));
         };
       }

@@ -118,10 +118,10 @@ module _ (s : List ℕ) (room : ℕ) where
             above = omega arith
 
             fits : childName (closed w) e ≤ length b
-            fits = read s room w b (g .sound) y z e n f l .fits
+            fits = read s w b e n f .fits
 
             inside : e .place + e .length ≤ length s
-            inside = within s room w b (g .sound) y z e n f l .inside
+            inside = within s w b e n f .inside
 
             v-is : after s room (closed w) b d nest e n ≡ v
             v-is =

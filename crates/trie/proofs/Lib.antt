@@ -12,3 +12,4 @@ pub mod Says
 pub mod Good
 pub mod Joined
 pub mod Unique
+pub mod Typed

@@ -1,0 +1,168 @@
+-- Calls hand back states whose fields are such as their types have: the arrays have their length, and each number is one of its type.
+-- Assumes nothing.
+use Prim.Native.Nat.{ℕ, zero, suc, _+_, _-_, _^_, _≤_, _<_}
+use mathlib.Core.Path.{_≡_, refl, _∙_, subst}
+use mathlib.Core.List.{List}
+use native.Mathlib.Omega.{arith}
+use lib.ListN.{length, getD, set, replicate, length-set}
+use Rattle.trie.proofs.Children.{node-in}
+use Rattle.trie.proofs.Course.{Next, over, stopped, reached, next, next-by, Course, ends, refuses, waits, limits, exports, visits, call-by}
+use Rattle.trie.proofs.Fits.{set-old, read, within, counted, buffer-long}
+use Rattle.trie.proofs.Visits.{still-at-most}
+use Rattle.trie.specs.Call.{atStart, closed, onTop, opened, childOf, childName, childOpened, edgePut, Answer, export, more, end, refused, Reply, call}
+use Rattle.trie.specs.ExportsTrie.{nodeAt}
+use Rattle.trie.specs.Frames.{most, stillOpen}
+use Rattle.trie.specs.declared.TrieWalk.{TrieWalk}
+use Rattle.trie.specs.declared.child.Child.the-variants.{Found}
+use Rattle.trie.specs.declared.node.Edge.{Edge}
+use Rattle.trie.specs.declared.node.Node.{Node}
+use Rattle.trie.specs.declared.node.NodeRead.the-variants as node
+
+-- ---- what the types hold
+
+-- an array, by the largest value of its elements
+pub record Array (largest : ℕ) (xs : List ℕ) : Type 0 where
+  pub long : length xs ≡ most
+  pub each : (i : ℕ) → getD xs i 0 ≤ largest
+
+pub record Fields (p o l n : List ℕ) (d : ℕ) : Type 0 where
+  pub places : Array (2 ^ 64 - 1) p
+  pub offsets : Array (2 ^ 64 - 1) o
+  pub left : Array (2 ^ 8 - 1) l
+  pub lengths : Array (2 ^ 64 - 1) n
+  pub depth : d ≤ 2 ^ 64 - 1
+
+abbrev pub Typed : TrieWalk → Type 0
+Typed w = Fields (w .places) (w .offsets) (w .left) (w .lengths) (w .depth)
+
+-- what is lent: bytes are below 256, and a slice has less than 2^64 of them; so many has the name buffer
+pub record Lent (s : List ℕ) (room : ℕ) : Type 0 where
+  pub bytes : (i : ℕ) → getD s i 0 < 256
+  pub short : length s < 2 ^ 64
+  pub small : room < 2 ^ 64
+
+-- ---- a start
+
+zeros : (n i : ℕ) → getD (replicate n 0) i 0 ≤ 0
+zeros zero i = omega arith
+zeros (suc n) zero = omega arith
+zeros (suc n) (suc i) = zeros n i
+
+blank : (largest : ℕ) → Array largest (replicate most 0)
+blank largest = record { long = refl; each = λ i. omega (arith, zeros most i) }
+
+pub typed-start : Typed atStart
+typed-start =
+    record { places = blank (2 ^ 64 - 1); offsets = blank (2 ^ 64 - 1); left = blank (2 ^ 8 - 1); lengths = blank (2 ^ 64 - 1); depth = omega arith }
+
+-- ---- what comes next
+
+set-array : {largest : ℕ} {xs : List ℕ} → Array largest xs → (i v : ℕ) → v ≤ largest → Array largest (set xs i v)
+set-array {largest} {xs} a i v h = record { long = length-set xs i v ∙ a .long; each = λ m. set-old xs i v largest h m (a .each m) }
+
+typed-closed : (w : TrieWalk) → Typed w → Typed (closed w)
+typed-closed w t =
+    record { places = t .places; offsets = t .offsets; left = t .left; lengths = t .lengths; depth = omega (arith, t .depth, still-at-most (w .left) (w .depth)) }
+
+-- ---- what a call hands back
+
+-- of an export, the length of its name
+abbrev pub Names : (room : ℕ) → Answer → Type 0
+Names room (export len x) = len ≤ room
+Names room more = Unit {0}
+Names room end = Unit {0}
+Names room (refused number) = Unit {0}
+
+-- a state, at most so many visits, and the buffer as long as it was, with room for the name that is told
+pub record Back (room limit : ℕ) (p : Reply × List ℕ) : Type 0 where
+  pub typed : Typed (p .0 .walk)
+  pub visits : p .0 .visits ≤ limit
+  pub name : Names room (p .0 .answer)
+  pub long : length (p .1) ≡ room
+
+module _ (s : List ℕ) (room : ℕ) (lent : Lent s room) where
+  -- a walk with its buffer, and the length of a name in it
+  record Held (len : ℕ) (w : TrieWalk) (b : List ℕ) : Type 0 where
+    typed : Typed w
+    long : length b ≡ room
+    name : len ≤ room
+
+  abbrev IfHeld : Next → Type 0
+  IfHeld over = Unit {0}
+  IfHeld (stopped number) = Unit {0}
+  IfHeld (reached len t v c) = Held len v c
+
+  module _ (w : TrieWalk) (b : List ℕ) (t : Typed w) (l : length b ≡ room) where
+    held-child : (e : Edge) (n : Node) → childOf s (length b) (closed w) ≡ Found e n → stillOpen (w .left) (w .depth) < most
+        → Held (childName (closed w) e) (childOpened (closed w) e n) (edgePut s (closed w) e b)
+    held-child e n f m =
+        let d : ℕ = stillOpen (w .left) (w .depth) in
+        let i = within s w b e n f in
+        let j = counted s w b e n f in
+        let fits : childName (closed w) e ≤ room = omega (arith, read s w b e n f .fits, l) in
+        let few : n .children ≤ 2 ^ 8 - 1 = omega (arith, j .count, lent .bytes (n .place - 1)) in
+        let fewer : onTop (closed w) (w .left) - 1 ≤ 2 ^ 8 - 1 = omega (arith, t .left .each (d - 1)) in
+        record {
+          typed = record {
+            places = set-array (set-array (t .places) (d - 1) (e .next) (omega (arith, i .next, lent .short))) d (n .place) (omega (arith, j .inside, lent .short));
+            offsets = set-array (t .offsets) d (e .offset) (omega (arith, i .offset));
+            left = set-array (set-array (t .left) (d - 1) (onTop (closed w) (w .left) - 1) fewer) d (n .children) few;
+            lengths = set-array (t .lengths) d (childName (closed w) e) (omega (arith, fits, lent .small));
+            depth = omega arith;
+          };
+          long = buffer-long s w b e n f ∙ l;
+          name = fits;
+        }
+
+    held-root : (n : Node) → nodeAt s 0 ≡ node.Found n → Held 0 (opened 0 (n .place) 0 (n .children) 0 w) b
+    held-root n f =
+        let j = node-in s 0 f in
+        record {
+          typed = record {
+            places = set-array (t .places) 0 (n .place) (omega (arith, j .inside, lent .short));
+            offsets = set-array (t .offsets) 0 0 (omega arith);
+            left = set-array (t .left) 0 (n .children) (omega (arith, j .count, lent .bytes (n .place - 1)));
+            lengths = set-array (t .lengths) 0 0 (omega arith);
+            depth = omega arith;
+          };
+          long = l;
+          name = omega arith;
+        }
+
+    held-next : IfHeld (next s w b)
+    held-next =
+        next-by s w b IfHeld
+        (record {
+          done = λ y z. tt;
+          bad = λ y z x f. tt;
+          full = λ y z e n f m. tt;
+          child = λ y z. held-child;
+          none = λ y e. tt;
+          root = λ y. held-root;
+        })
+
+  -- ---- a course
+
+  course-back : {given : TrieWalk} {k n : ℕ} {w : TrieWalk} {b : List ℕ} {p : Reply × List ℕ} → Typed given → Course s given k n w b p → Typed w → length b ≡ room → Back room (n + k) p
+  course-back g (ends {w = w} e z) t l = record { typed = typed-closed w t; visits = omega arith; name = tt; long = l }
+  course-back g (refuses e) t l = record { typed = g; visits = omega arith; name = tt; long = l }
+  course-back g waits t l = record { typed = t; visits = omega arith; name = tt; long = l }
+  course-back g (limits {w = w} y) t l = record { typed = typed-closed w t; visits = omega arith; name = tt; long = l }
+  course-back g (exports {w = w} {b = b} e) t l =
+      let h = subst IfHeld e (held-next w b t l) in
+      record { typed = h .typed; visits = omega arith; name = h .name; long = h .long }
+  course-back g (visits {w = w} {b = b} e c) t l =
+      let h = subst IfHeld e (held-next w b t l) in
+      let r = course-back g c (h .typed) (h .long) in
+      record { typed = r .typed; visits = omega (arith, r .visits); name = r .name; long = r .long }
+
+-- ---- a call
+
+-- from any state whose fields are such as their types have, in range or not
+pub typed-call : (s : List ℕ) (limit : ℕ) (w : TrieWalk) (b : List ℕ) → Lent s (length b) → Typed w → Back (length b) limit (call s limit w b)
+typed-call s limit w b lent t =
+    call-by s limit w b (Back (length b) limit)
+    (λ out. record { typed = t; visits = omega arith; name = tt; long = refl })
+    (λ range e. record { typed = t; visits = omega arith; name = tt; long = refl })
+    (λ range e c. let z : 0 + limit ≡ limit = omega arith in
+    subst (λ (k : ℕ). Back (length b) k (call s limit w b)) z (course-back s (length b) lent t c t refl))
