@@ -1,17 +1,21 @@
--- Bytes that are read as words, and written again, are as they were. Assumes nothing.
+-- Bytes that are read as words, and written again, are as they were; and words that are read are below 2^64. Assumes nothing.
 use Prim.Native.Nat.{ℕ, zero, suc, _+_, _*_, _/_, _%_, _^_, _≤_, _<_}
 use mathlib.Core.Path.{_≡_, refl, sym, ap, _∙_}
+use mathlib.Core.Bool.{Bool, true, false, cond}
 use mathlib.Core.List.{List, [], _∷_, _++_}
 use native.Mathlib.Omega.{arith}
 use native.Mathlib.Decide.{decLt}
 use borrow.Author.Tests.{le-leb}
+use lib.Dec.{leb}
 use lib.ListN.{length, take, drop, getD, length-drop}
 use lib.Seq.{take-add, take-all, drop-drop}
+use Rattle.numbers.proofs.little_endian.Fields.{field-below}
 use Rattle.numbers.specs.Digits.{fromDigits}
 use Rattle.numbers.specs.LittleEndian.{littleEndian, fieldAt}
 use Rattle.numbers.specs.Then.{thenNumber}
+use Rattle.numbers.specs.declared.Number.the-variants.{Value, Fault}
 use Rattle.packing.proofs.Signs.{positive, negative}
-use Rattle.packing.specs.Fields.{isSet, bit, signedOf, unsignedOf}
+use Rattle.packing.specs.Fields.{u64, isSet, bit, signedOf, unsignedOf}
 use Rattle.packing.specs.Words.{wordAt, wordsFrom, toDigits, wordBytes, bytesOf}
 
 -- what the bytes of a slice are known to be
@@ -40,6 +44,14 @@ unfolding wordAt fieldAt thenNumber littleEndian
 word-whole s h i l =
     rw (le-leb (8 * i + 8) (length s) l)
     (digits-whole 8 (drop (8 * i) s) (bytes-drop (8 * i) s h) (omega (arith, length-drop (8 * i) s)))
+
+pub word-below : (s : List ℕ) → Bytes s → (i : ℕ) → wordAt s i ≤ u64
+unfolding wordAt fieldAt thenNumber
+word-below s h i = by (leb (8 * i + 8) (length s))
+  where
+    by : (t : Bool) → thenNumber (cond t (Value (littleEndian 8 s (8 * i)) (8 * i + 8)) Fault) 0 (λ v next. v) ≤ u64
+    by true = omega (arith, field-below s 8 (8 * i) (λ j. record { fits = h j }))
+    by false = omega arith
 
 -- ---- words
 
@@ -76,6 +88,12 @@ words-add s i (suc m) n =
     let f : i + 1 + m ≡ i + suc m = omega arith in
     ap (wordsFrom s i) e
     ∙ ap (λ (l : List ℕ). wordAt s i ∷ l) (words-add s (i + 1) m n ∙ ap (λ (k : ℕ). wordsFrom s (i + 1) m ++ wordsFrom s k n) f)
+
+pub words-below : (s : List ℕ) → Bytes s → (i n j : ℕ) → getD (wordsFrom s i n) j 0 ≤ u64
+unfolding wordsFrom
+words-below s h i zero j = omega arith
+words-below s h i (suc n) zero = word-below s h i
+words-below s h i (suc n) (suc j) = words-below s h (i + 1) n j
 
 -- ---- fields
 
