@@ -1,5 +1,5 @@
--- A state whose lists have their length and whose words are such as their types have comes back from its bytes whole. Assumes nothing.
-use Prim.Native.Nat.{ℕ, suc, _+_, _*_, _≤_, _<_}
+-- A state whose fields are such as their types have comes back from its bytes whole. Assumes nothing.
+use Prim.Native.Nat.{ℕ, zero, suc, _+_, _*_, _≤_, _<_}
 use mathlib.Core.Path.{_≡_, refl, sym, ap, _∙_}
 use mathlib.Core.Bool.{Bool, true, false}
 use mathlib.Core.List.{List, [], _∷_, _++_}
@@ -16,16 +16,10 @@ use Rattle.packing.proofs.Back.{word-back, flag-back}
 use Rattle.packing.proofs.Words.{length-bytes}
 use Rattle.packing.specs.Fields.{u64, isSet, bit}
 use Rattle.packing.specs.Words.{wordsFrom, wordAt, bytesOf}
+use Rattle.trie.proofs.Typed.{Typed}
 use Rattle.trie.specs.Call.{call}
 use Rattle.trie.specs.Frames.{most}
 use Rattle.trie.specs.declared.TrieWalk.{TrieWalk}
-
-pub record Good (w : TrieWalk) : Type 0 where
-  pub words : (i : ℕ) → getD (stateWords w) i 0 ≤ u64
-  pub places : length (w .places) ≡ most
-  pub offsets : length (w .offsets) ≡ most
-  pub lengths : length (w .lengths) ≡ most
-  pub left : length (w .left) ≡ most
 
 -- what stands behind a word does not matter
 word-front : (s t : List ℕ) (i : ℕ) → 8 * i + 8 ≤ length s → wordAt (s ++ t) i ≡ wordAt s i
@@ -45,23 +39,36 @@ words-back s (x ∷ l) first h =
     λ i k. let e : first + 1 + i ≡ first + suc i = omega arith in ap (wordAt s) e ∙ h (suc i) (omega arith) in
     (λ j. (ap (wordAt s) z ∙ h 0 (omega arith)) j ∷ words-back s l (first + 1) next j)
 
+-- words one behind the other, all of them small enough
+append-most : (xs ys : List ℕ) (largest : ℕ) → ((i : ℕ) → getD xs i 0 ≤ largest) → ((i : ℕ) → getD ys i 0 ≤ largest) → (i : ℕ) → getD (xs ++ ys) i 0 ≤ largest
+append-most [] ys largest f g i = g i
+append-most (x ∷ xs) ys largest f g zero = f 0
+append-most (x ∷ xs) ys largest f g (suc i) = append-most xs ys largest (λ j. f (suc j)) g i
+
 flag-most : (b : Bool) → bit b ≤ 1
 flag-most true = omega arith
 flag-most false = omega arith
 
-module _ (w : TrieWalk) (g : Good w) where
+module _ (w : TrieWalk) (t : Typed w) where
+  words-most : (i : ℕ) → getD (stateWords w) i 0 ≤ u64
+  words-most zero = t .depth
+  words-most (suc zero) = omega (arith, flag-most (w .begun))
+  words-most (suc (suc zero)) = omega (arith, flag-most (w .ended))
+  words-most (suc (suc (suc i))) =
+      append-most (w .places ++ w .offsets) (w .lengths) u64 (append-most (w .places) (w .offsets) u64 (t .places .each) (t .offsets .each)) (t .lengths .each) i
+
   long : length (bytesOf (stateWords w)) ≡ 8 * (3 + 3 * most)
   long =
       let n₁ = length-append (w .places) (w .offsets) in
       let n₂ = length-append (w .places ++ w .offsets) (w .lengths) in
-      omega (arith, length-bytes (stateWords w), g .places, g .offsets, g .lengths)
+      omega (arith, length-bytes (stateWords w), t .places .long, t .offsets .long, t .lengths .long)
 
   back : (i : ℕ) → i < 771 → wordAt (stateBytes w) i ≡ getD (stateWords w) i 0
   unfolding stateBytes
   back i h =
       let n = length-bytes (stateWords w) in
       word-front (bytesOf (stateWords w)) (w .left) i (omega (arith, long))
-      ∙ word-back (stateWords w) i (omega (arith, long)) (g .words i)
+      ∙ word-back (stateWords w) i (omega (arith, long)) (words-most i)
 
   flag : (i : ℕ) (b : Bool) → i < 771 → getD (stateWords w) i 0 ≡ bit b → isSet (wordAt (stateBytes w) i) ≡ b
   flag i b h q = ap isSet (back i h ∙ q) ∙ flag-back b
@@ -76,19 +83,19 @@ module _ (w : TrieWalk) (g : Good w) where
     in-places =
         let e : 3 + i ≡ suc (suc (suc i)) = omega arith in
         ap (λ (n : ℕ). getD (stateWords w) n 0) e
-        ∙ List·getD-append (w .places ++ w .offsets) (w .lengths) 0 i (omega (arith, length-append (w .places) (w .offsets), g .places))
-        ∙ List·getD-append (w .places) (w .offsets) 0 i (omega (arith, g .places))
+        ∙ List·getD-append (w .places ++ w .offsets) (w .lengths) 0 i (omega (arith, length-append (w .places) (w .offsets), t .places .long))
+        ∙ List·getD-append (w .places) (w .offsets) 0 i (omega (arith, t .places .long))
 
     in-offsets : getD (stateWords w) (259 + i) 0 ≡ getD (w .offsets) i 0
     in-offsets =
-        let e : 259 + i ≡ suc (suc (suc (length (w .places) + i))) = omega (arith, g .places) in
+        let e : 259 + i ≡ suc (suc (suc (length (w .places) + i))) = omega (arith, t .places .long) in
         ap (λ (n : ℕ). getD (stateWords w) n 0) e
-        ∙ List·getD-append (w .places ++ w .offsets) (w .lengths) 0 (length (w .places) + i) (omega (arith, length-append (w .places) (w .offsets), g .offsets))
+        ∙ List·getD-append (w .places ++ w .offsets) (w .lengths) 0 (length (w .places) + i) (omega (arith, length-append (w .places) (w .offsets), t .offsets .long))
         ∙ getD-append-add (w .places) (w .offsets) i 0
 
     in-lengths : getD (stateWords w) (515 + i) 0 ≡ getD (w .lengths) i 0
     in-lengths =
-        let e : 515 + i ≡ suc (suc (suc (length (w .places ++ w .offsets) + i))) = omega (arith, length-append (w .places) (w .offsets), g .places, g .offsets) in
+        let e : 515 + i ≡ suc (suc (suc (length (w .places ++ w .offsets) + i))) = omega (arith, length-append (w .places) (w .offsets), t .places .long, t .offsets .long) in
         ap (λ (n : ℕ). getD (stateWords w) n 0) e ∙ getD-append-add (w .places ++ w .offsets) (w .lengths) i 0
 
   bytes : drop (8 * (3 + 3 * most)) (stateBytes w) ≡ w .left
@@ -102,16 +109,16 @@ module _ (w : TrieWalk) (g : Good w) where
         depth = back 0 (omega arith) j;
         begun = flag 1 (w .begun) (omega arith) refl j;
         ended = flag 2 (w .ended) (omega arith) refl j;
-        places = list (w .places) 3 (g .places) (omega arith) in-places j;
-        offsets = list (w .offsets) 259 (g .offsets) (omega arith) in-offsets j;
-        lengths = list (w .lengths) 515 (g .lengths) (omega arith) in-lengths j;
+        places = list (w .places) 3 (t .places .long) (omega arith) in-places j;
+        offsets = list (w .offsets) 259 (t .offsets .long) (omega arith) in-offsets j;
+        lengths = list (w .lengths) 515 (t .lengths .long) (omega arith) in-lengths j;
         left = bytes j;
       }
 
   holds-back : holds (stateBytes w) ≡ true
   unfolding holds stateBytes
   holds-back =
-      let n : length (stateBytes w) ≡ stateLong = omega (arith, length-append (bytesOf (stateWords w)) (w .left), long, g .left) in
+      let n : length (stateBytes w) ≡ stateLong = omega (arith, length-append (bytesOf (stateWords w)) (w .left), long, t .left .long) in
       let e₁ : wordAt (stateBytes w) 1 ≤ 1 = omega (arith, back 1 (omega arith), flag-most (w .begun)) in
       let e₂ : wordAt (stateBytes w) 2 ≤ 1 = omega (arith, back 2 (omega arith), flag-most (w .ended)) in
       rw (eq-eqb (length (stateBytes w)) stateLong n, le-leb (wordAt (stateBytes w) 1) 1 e₁, le-leb (wordAt (stateBytes w) 2) 1 e₂)

@@ -4,3 +4,4 @@ mod Flags
 mod Kept
 mod Steps
 pub mod Carried
+pub mod Whole
