@@ -5,3 +5,5 @@ mod Kept
 mod Steps
 pub mod Carried
 pub mod Whole
+pub mod Returned
+pub mod Through

@@ -28,7 +28,7 @@ six (regular address) = refl
 six (reexport ordinal place size) = refl
 six (stubAndResolver stub resolver) = refl
 
-nine : (visits : ℕ) (a : Answer) → 8 * length (itemWords visits a) ≡ itemLong
+pub nine : (visits : ℕ) (a : Answer) → 8 * length (itemWords visits a) ≡ itemLong
 nine visits (export len x) = omega (arith, six (x .target))
 nine visits more = refl
 nine visits end = refl

@@ -8,7 +8,7 @@ use Rattle.packing.specs.Boundary.{States, itemTold, endTold, moreTold, unfit}
 use Rattle.packing.specs.Fields.{flag, isSet, bit}
 use Rattle.packing.specs.Words.{wordAt, wordsFrom, bytesOf}
 use Rattle.trie.specs.Call.{Answer, export, more, end, refused, Reply, call}
-use Rattle.trie.specs.Exported.{Target, regular, reexport, stubAndResolver}
+use Rattle.trie.specs.Exported.{Target, regular, reexport, stubAndResolver, Exported}
 use Rattle.trie.specs.Frames.{most}
 use Rattle.trie.specs.declared.TrieWalk.{TrieWalk}
 
@@ -58,11 +58,14 @@ targetWords (regular address) = 0 ∷ address ∷ 0 ∷ 0 ∷ 0 ∷ 0 ∷ []
 targetWords (reexport ordinal place size) = 1 ∷ 0 ∷ 0 ∷ ordinal ∷ place ∷ size ∷ []
 targetWords (stubAndResolver stub resolver) = 2 ∷ stub ∷ resolver ∷ 0 ∷ 0 ∷ 0 ∷ []
 
+abbrev pub exportWords : (len : ℕ) → Exported → List ℕ
+exportWords len x = len ∷ x .flags ∷ targetWords (x .target)
+
 abbrev pub noExport : List ℕ
 noExport = 0 ∷ 0 ∷ 0 ∷ 0 ∷ 0 ∷ 0 ∷ 0 ∷ 0 ∷ []
 
 abbrev pub itemWords : (visits : ℕ) → Answer → List ℕ
-itemWords visits (export len x) = visits ∷ len ∷ x .flags ∷ targetWords (x .target)
+itemWords visits (export len x) = visits ∷ exportWords len x
 itemWords visits more = visits ∷ noExport
 itemWords visits end = visits ∷ noExport
 itemWords visits (refused n) = visits ∷ noExport
