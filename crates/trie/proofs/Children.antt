@@ -4,9 +4,10 @@ use mathlib.Core.Path.{_≡_, refl, sym, ap, _∙_, subst}
 use mathlib.Core.Bool.{Bool, true, false, cond}
 use mathlib.Core.List.{List}
 use native.Mathlib.Omega.{arith}
-use borrow.Author.Tests.{ltb-true, ltb-false}
+use borrow.Author.Tests.{ltb-true, ltb-false, leb-true}
 use lib.Dec.{leb, ltb, eqb}
 use lib.ListN.{length, getD, take}
+use lib.Seq.{length-take-le}
 use Rattle.numbers.proofs.Laws.{uleb-read, string-read}
 use Rattle.numbers.proofs.Then.{by-number, by-text}
 use Rattle.numbers.specs.Leb128.{ulebAt}
@@ -14,7 +15,9 @@ use Rattle.numbers.specs.Strings.{stringAt}
 use Rattle.refusal.specs.Numbers.{numberOf}
 use Rattle.refusal.specs.declared.Refusal.{Refusal}
 use Rattle.refusal.specs.declared.Refusal.the-variants.{FaultyNode, ChildIsOpen, NameTooLong}
+use Rattle.trie.proofs.Exports.{ExportIn, IfExport, export-more, export-in}
 use Rattle.trie.specs.Child.{thenEdge, thenNode, childAt}
+use Rattle.trie.specs.Exported.{exportTold}
 use Rattle.trie.specs.ExportsTrie.{thenExport, exportAt, countedAt, nodeAt, edgeAt}
 use Rattle.trie.specs.Frames.{isOneOf}
 use Rattle.trie.specs.declared.child.Child.{Child}
@@ -37,10 +40,15 @@ pub record EdgeIn (s : List ℕ) (e : Edge) : Type 0 where
   pub inside : e .place + e .length ≤ length s
   pub offset : e .offset < 2 ^ 64
 
+abbrev pub TerminalIn : (bytes : ℕ) → Terminal → Type 0
+TerminalIn bytes terminal.NoExport = Unit {0}
+TerminalIn bytes (terminal.Export x) = ExportIn bytes (exportTold x)
+
 -- its children are counted by the byte before its first edge
 pub record NodeIn (s : List ℕ) (n : Node) : Type 0 where
   pub inside : n .place ≤ length s
   pub count : n .children ≡ getD s (n .place - 1) 0
+  pub terminal : TerminalIn (length s) (n .terminal)
 
 abbrev IfEdge : List ℕ → EdgeRead → Type 0
 IfEdge s (edge.Found e) = EdgeIn s e
@@ -65,35 +73,38 @@ module _ (s : List ℕ) where
   pub edge-in : (at : ℕ) {e : Edge} → edgeAt s at ≡ edge.Found e → EdgeIn s e
   edge-in at f = subst (IfEdge s) f (edge-by at)
 
-  counted-by : (t : Terminal) (at : ℕ) → IfNode s (countedAt s t at)
+  counted-by : (t : Terminal) (at : ℕ) → TerminalIn (length s) t → IfNode s (countedAt s t at)
   unfolding countedAt
-  counted-by t at = by (ltb at (length s)) refl
+  counted-by t at h = by (ltb at (length s)) refl
     where
       by : (b : Bool) → ltb at (length s) ≡ b → IfNode s (cond b (node.Found (record { terminal = t; children = getD s at 0; place = at + 1 })) node.Fault)
       by true f =
-          let h = ltb-true at (length s) f in
+          let l = ltb-true at (length s) f in
           let e : at ≡ at + 1 - 1 = omega arith in
-          record { inside = omega arith; count = ap (λ (i : ℕ). getD s i 0) e }
+          record { inside = omega arith; count = ap (λ (i : ℕ). getD s i 0) e; terminal = h }
       by false f = tt
 
   node-by : (offset : ℕ) → IfNode s (nodeAt s offset)
   unfolding nodeAt
   node-by offset =
       by-number (ulebAt s offset) _ _ (IfNode s) tt
-      (λ size at f. none at (eqb size 0) _ (area at size (leb (at + size) (length s))))
+      (λ size at f. none at (eqb size 0) _ (area at size (leb (at + size) (length s)) refl))
     where
       none : (at : ℕ) (b : Bool) (x : NodeRead) → IfNode s x → IfNode s (cond b (countedAt s terminal.NoExport at) x)
-      none at true x h = counted-by terminal.NoExport at
+      none at true x h = counted-by terminal.NoExport at tt
       none at false x h = h
 
-      exports : (at size : ℕ) (x : ExportRead) → IfNode s (thenExport x node.Fault (λ x. countedAt s (terminal.Export x) (at + size)))
-      exports at size (export.Read x) = unfold thenExport in counted-by (terminal.Export x) (at + size)
-      exports at size export.Fault = unfold thenExport in tt
+      exports : (at size : ℕ) (x : ExportRead) → IfExport (length s) x → IfNode s (thenExport x node.Fault (λ x. countedAt s (terminal.Export x) (at + size)))
+      exports at size (export.Read x) h = unfold thenExport in counted-by (terminal.Export x) (at + size) h
+      exports at size export.Fault h = unfold thenExport in tt
 
-      area : (at size : ℕ) (b : Bool)
+      area : (at size : ℕ) (b : Bool) → leb (at + size) (length s) ≡ b
           → IfNode s (cond b (thenExport (exportAt (take (at + size) s) at) node.Fault (λ x. countedAt s (terminal.Export x) (at + size))) node.Fault)
-      area at size true = exports at size (exportAt (take (at + size) s) at)
-      area at size false = tt
+      area at size true f =
+          let t = take (at + size) s in
+          let l = length-take-le (at + size) s (leb-true (at + size) (length s) f) in
+          exports at size (exportAt t at) (export-more (omega (arith, l, leb-true (at + size) (length s) f)) (exportAt t at) (export-in t at))
+      area at size false f = tt
 
   pub node-in : (offset : ℕ) {n : Node} → nodeAt s offset ≡ node.Found n → NodeIn s n
   node-in offset f = subst (IfNode s) f (node-by offset)

@@ -1,12 +1,13 @@
--- Calls hand back states whose fields are such as their types have: the arrays have their length, and each number is one of its type.
--- Assumes nothing.
+-- Calls hand back states whose fields are such as their types have, the arrays' lengths and each number; and so are those of the exports
+-- that they answer. Assumes nothing.
 use Prim.Native.Nat.{ℕ, zero, suc, _+_, _-_, _^_, _≤_, _<_}
 use mathlib.Core.Path.{_≡_, refl, _∙_, subst}
 use mathlib.Core.List.{List}
 use native.Mathlib.Omega.{arith}
 use lib.ListN.{length, getD, set, replicate, length-set}
-use Rattle.trie.proofs.Children.{node-in}
+use Rattle.trie.proofs.Children.{TerminalIn, node-in}
 use Rattle.trie.proofs.Course.{Next, over, stopped, reached, next, next-by, Course, ends, refuses, waits, limits, exports, visits, call-by}
+use Rattle.trie.proofs.Exports.{ExportIn}
 use Rattle.trie.proofs.Fits.{set-old, read, within, counted, buffer-long}
 use Rattle.trie.proofs.Visits.{still-at-most}
 use Rattle.trie.specs.Call.{atStart, closed, onTop, opened, childOf, childName, childOpened, edgePut, Answer, export, more, end, refused, Reply, call}
@@ -17,6 +18,7 @@ use Rattle.trie.specs.declared.child.Child.the-variants.{Found}
 use Rattle.trie.specs.declared.node.Edge.{Edge}
 use Rattle.trie.specs.declared.node.Node.{Node}
 use Rattle.trie.specs.declared.node.NodeRead.the-variants as node
+use Rattle.trie.specs.declared.node.Terminal.{Terminal}
 
 -- ---- what the types hold
 
@@ -66,35 +68,36 @@ typed-closed w t =
 
 -- ---- what a call hands back
 
--- of an export, the length of its name
-abbrev pub Names : (room : ℕ) → Answer → Type 0
-Names room (export len x) = len ≤ room
-Names room more = Unit {0}
-Names room end = Unit {0}
-Names room (refused number) = Unit {0}
+-- of an export, the name is in the buffer, and its numbers are such as their types have
+abbrev pub AnswerIn : (bytes room : ℕ) → Answer → Type 0
+AnswerIn bytes room (export len x) = (len ≤ room) × ExportIn bytes x
+AnswerIn bytes room more = Unit {0}
+AnswerIn bytes room end = Unit {0}
+AnswerIn bytes room (refused number) = Unit {0}
 
--- a state, at most so many visits, and the buffer as long as it was, with room for the name that is told
-pub record Back (room limit : ℕ) (p : Reply × List ℕ) : Type 0 where
+-- a state, at most so many visits, an answer, and the buffer as long as it was
+pub record Back (bytes room limit : ℕ) (p : Reply × List ℕ) : Type 0 where
   pub typed : Typed (p .0 .walk)
   pub visits : p .0 .visits ≤ limit
-  pub name : Names room (p .0 .answer)
+  pub answer : AnswerIn bytes room (p .0 .answer)
   pub long : length (p .1) ≡ room
 
 module _ (s : List ℕ) (room : ℕ) (lent : Lent s room) where
-  -- a walk with its buffer, and the length of a name in it
-  record Held (len : ℕ) (w : TrieWalk) (b : List ℕ) : Type 0 where
+  -- a node that is reached, with the length of its name in the buffer
+  record Held (len : ℕ) (t : Terminal) (w : TrieWalk) (b : List ℕ) : Type 0 where
     typed : Typed w
     long : length b ≡ room
     name : len ≤ room
+    terminal : TerminalIn (length s) t
 
   abbrev IfHeld : Next → Type 0
   IfHeld over = Unit {0}
   IfHeld (stopped number) = Unit {0}
-  IfHeld (reached len t v c) = Held len v c
+  IfHeld (reached len t v c) = Held len t v c
 
   module _ (w : TrieWalk) (b : List ℕ) (t : Typed w) (l : length b ≡ room) where
     held-child : (e : Edge) (n : Node) → childOf s (length b) (closed w) ≡ Found e n → stillOpen (w .left) (w .depth) < most
-        → Held (childName (closed w) e) (childOpened (closed w) e n) (edgePut s (closed w) e b)
+        → Held (childName (closed w) e) (n .terminal) (childOpened (closed w) e n) (edgePut s (closed w) e b)
     held-child e n f m =
         let d : ℕ = stillOpen (w .left) (w .depth) in
         let i = within s w b e n f in
@@ -112,9 +115,10 @@ module _ (s : List ℕ) (room : ℕ) (lent : Lent s room) where
           };
           long = buffer-long s w b e n f ∙ l;
           name = fits;
+          terminal = j .terminal;
         }
 
-    held-root : (n : Node) → nodeAt s 0 ≡ node.Found n → Held 0 (opened 0 (n .place) 0 (n .children) 0 w) b
+    held-root : (n : Node) → nodeAt s 0 ≡ node.Found n → Held 0 (n .terminal) (opened 0 (n .place) 0 (n .children) 0 w) b
     held-root n f =
         let j = node-in s 0 f in
         record {
@@ -127,6 +131,7 @@ module _ (s : List ℕ) (room : ℕ) (lent : Lent s room) where
           };
           long = l;
           name = omega arith;
+          terminal = j .terminal;
         }
 
     held-next : IfHeld (next s w b)
@@ -143,26 +148,26 @@ module _ (s : List ℕ) (room : ℕ) (lent : Lent s room) where
 
   -- ---- a course
 
-  course-back : {given : TrieWalk} {k n : ℕ} {w : TrieWalk} {b : List ℕ} {p : Reply × List ℕ} → Typed given → Course s given k n w b p → Typed w → length b ≡ room → Back room (n + k) p
-  course-back g (ends {w = w} e z) t l = record { typed = typed-closed w t; visits = omega arith; name = tt; long = l }
-  course-back g (refuses e) t l = record { typed = g; visits = omega arith; name = tt; long = l }
-  course-back g waits t l = record { typed = t; visits = omega arith; name = tt; long = l }
-  course-back g (limits {w = w} y) t l = record { typed = typed-closed w t; visits = omega arith; name = tt; long = l }
+  course-back : {given : TrieWalk} {k n : ℕ} {w : TrieWalk} {b : List ℕ} {p : Reply × List ℕ} → Typed given → Course s given k n w b p → Typed w → length b ≡ room → Back (length s) room (n + k) p
+  course-back g (ends {w = w} e z) t l = record { typed = typed-closed w t; visits = omega arith; answer = tt; long = l }
+  course-back g (refuses e) t l = record { typed = g; visits = omega arith; answer = tt; long = l }
+  course-back g waits t l = record { typed = t; visits = omega arith; answer = tt; long = l }
+  course-back g (limits {w = w} y) t l = record { typed = typed-closed w t; visits = omega arith; answer = tt; long = l }
   course-back g (exports {w = w} {b = b} e) t l =
       let h = subst IfHeld e (held-next w b t l) in
-      record { typed = h .typed; visits = omega arith; name = h .name; long = h .long }
+      record { typed = h .typed; visits = omega arith; answer = (h .name, h .terminal); long = h .long }
   course-back g (visits {w = w} {b = b} e c) t l =
       let h = subst IfHeld e (held-next w b t l) in
       let r = course-back g c (h .typed) (h .long) in
-      record { typed = r .typed; visits = omega (arith, r .visits); name = r .name; long = r .long }
+      record { typed = r .typed; visits = omega (arith, r .visits); answer = r .answer; long = r .long }
 
 -- ---- a call
 
 -- from any state whose fields are such as their types have, in range or not
-pub typed-call : (s : List ℕ) (limit : ℕ) (w : TrieWalk) (b : List ℕ) → Lent s (length b) → Typed w → Back (length b) limit (call s limit w b)
+pub typed-call : (s : List ℕ) (limit : ℕ) (w : TrieWalk) (b : List ℕ) → Lent s (length b) → Typed w → Back (length s) (length b) limit (call s limit w b)
 typed-call s limit w b lent t =
-    call-by s limit w b (Back (length b) limit)
-    (λ out. record { typed = t; visits = omega arith; name = tt; long = refl })
-    (λ range e. record { typed = t; visits = omega arith; name = tt; long = refl })
+    call-by s limit w b (Back (length s) (length b) limit)
+    (λ out. record { typed = t; visits = omega arith; answer = tt; long = refl })
+    (λ range e. record { typed = t; visits = omega arith; answer = tt; long = refl })
     (λ range e c. let z : 0 + limit ≡ limit = omega arith in
-    subst (λ (k : ℕ). Back (length b) k (call s limit w b)) z (course-back s (length b) lent t c t refl))
+    subst (λ (k : ℕ). Back (length s) (length b) k (call s limit w b)) z (course-back s (length b) lent t c t refl))
