@@ -13,6 +13,7 @@ use Rattle.numbers.specs.Then.{thenNumber}
 use Rattle.packed_trie.proofs.Steps.{by-state}
 use Rattle.packed_trie.specs.Packed.{stateLong, stateWords, stateBytes, stateAt, holds, itemLong, stepTold, stepped}
 use Rattle.packing.proofs.Back.{word-back, flag-back}
+use Rattle.packing.proofs.Whole.{words-back}
 use Rattle.packing.proofs.Words.{length-bytes}
 use Rattle.packing.specs.Fields.{u64, isSet, bit}
 use Rattle.packing.specs.Words.{wordsFrom, wordAt, bytesOf}
@@ -29,15 +30,6 @@ word-front s t i h =
     ap (take 8) (drop-append-le (8 * i) s t (omega arith)) ∙ take-append-le 8 (drop (8 * i) s) t (omega (arith, length-drop (8 * i) s)) in
     rw (le-leb (8 * i + 8) (length (s ++ t)) (omega (arith, length-append s t)), le-leb (8 * i + 8) (length s) h)
     (ap (fromDigits 256) part)
-
-words-back : (s l : List ℕ) (first : ℕ) → ((i : ℕ) → i < length l → wordAt s (first + i) ≡ getD l i 0) → wordsFrom s first (length l) ≡ l
-unfolding wordsFrom
-words-back s [] first h = refl
-words-back s (x ∷ l) first h =
-    let z : first ≡ first + 0 = omega arith in
-    let next : (i : ℕ) → i < length l → wordAt s (first + 1 + i) ≡ getD l i 0 =
-    λ i k. let e : first + 1 + i ≡ first + suc i = omega arith in ap (wordAt s) e ∙ h (suc i) (omega arith) in
-    (λ j. (ap (wordAt s) z ∙ h 0 (omega arith)) j ∷ words-back s l (first + 1) next j)
 
 -- words one behind the other, all of them small enough
 append-most : (xs ys : List ℕ) (largest : ℕ) → ((i : ℕ) → getD xs i 0 ≤ largest) → ((i : ℕ) → getD ys i 0 ≤ largest) → (i : ℕ) → getD (xs ++ ys) i 0 ≤ largest

@@ -6,4 +6,5 @@ mod Steps
 pub mod Carried
 pub mod Whole
 pub mod Returned
+pub mod Items
 pub mod Through

@@ -23,7 +23,7 @@ begins-at state l e f = begins states begun state l refl (ap begun e) (two refl 
 -- ---- a step
 
 -- an item has nine words
-six : (x : Target) → length (targetWords x) ≡ 6
+pub six : (x : Target) → length (targetWords x) ≡ 6
 six (regular address) = refl
 six (reexport ordinal place size) = refl
 six (stubAndResolver stub resolver) = refl

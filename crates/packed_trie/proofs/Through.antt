@@ -6,55 +6,39 @@ use mathlib.Core.List.{List, [], _∷_, _++_, map, map-append}
 use mathlib.Core.Option.{Option, none, some}
 use native.Mathlib.Omega.{arith}
 use borrow.Author.Tests.{eq-eqb, ne-eqb}
-use lib.ListN.{length, take, drop, getD}
-use lib.Seq.{drop-at, length-take-le}
+use lib.ListN.{length, take, getD}
+use lib.Seq.{length-take-le}
 use Rattle.packed_trie.proofs.Carried.{carried}
-use Rattle.packed_trie.proofs.Steps.{nine}
+use Rattle.packed_trie.proofs.Items.{item-long, first-word, name-word, export-words}
 use Rattle.packed_trie.proofs.Whole.{bytes-back, typed-at}
 use Rattle.packed_trie.specs.Calls.{Entry, Said, said, hear, callsThrough, throughStart, symbolTold, endingTold, joinedTold}
 use Rattle.packed_trie.specs.Packed.{stateLong, stateBytes, stateAt, holds, states, exportWords, itemWords, itemLong, answerTold}
-use Rattle.packing.proofs.Back.{word-back}
 use Rattle.packing.proofs.Whole.{Bytes}
-use Rattle.packing.proofs.Words.{length-word, length-bytes}
 use Rattle.packing.specs.Boundary.{startTold, started}
 use Rattle.packing.specs.Fields.{u64}
-use Rattle.packing.specs.Words.{wordAt, wordBytes, bytesOf}
+use Rattle.packing.specs.Words.{bytesOf}
 use Rattle.runs.specs.Runs.{begun}
 use Rattle.trie.proofs.Joined.{nonzero, joined-says, joined-starts, joined-all}
 use Rattle.trie.proofs.Stops.{refused-number}
-use Rattle.trie.proofs.Typed.{Typed, Lent, Names, typed-start, typed-call}
+use Rattle.trie.proofs.Typed.{Typed, Lent, AnswerIn, typed-start, typed-call}
 use Rattle.trie.specs.Call.{atStart, Answer, export, more, end, refused, call}
 use Rattle.trie.specs.Frames.{most}
 use Rattle.trie.specs.Joined.{Ending, Joined, join, calls, exportsIn, visitsIn, heard}
 use Rattle.trie.specs.Listing.{listing}
 use Rattle.trie.specs.declared.TrieWalk.{TrieWalk}
 
--- ---- the words of an item
-
-first-word : (v : ℕ) (vs : List ℕ) → v ≤ u64 → wordAt (bytesOf (v ∷ vs)) 0 ≡ v
-first-word v vs h = word-back (v ∷ vs) 0 (omega arith) h
-
-second-word : (v w : ℕ) (vs : List ℕ) → w ≤ u64 → wordAt (bytesOf (v ∷ w ∷ vs)) 1 ≡ w
-second-word v w vs h = word-back (v ∷ w ∷ vs) 1 (omega arith) h
-
-behind-first : (v : ℕ) (vs : List ℕ) → drop 8 (bytesOf (v ∷ vs)) ≡ bytesOf vs
-unfolding bytesOf
-behind-first v vs = drop-at (wordBytes v) (bytesOf vs) 8 (length-word v)
-
-item-long : (n : ℕ) (a : Answer) → length (bytesOf (itemWords n a)) ≡ itemLong
-item-long n a = length-bytes (itemWords n a) ∙ nine n a
-
 -- ---- a call
 
 -- so many visits were made, and the buffer was left as c
-module _ (n : ℕ) (c : List ℕ) (few : n ≤ u64) (small : length c ≤ u64) (rest : Joined) where
-  hear-says : (a : Answer) → Names (length c) a → ((number : ℕ) → a ≡ refused number → (15 ≤ number) × (number ≤ 19))
+module _ (n : ℕ) (c : List ℕ) (few : n ≤ u64) (bytes : ℕ) (short : bytes ≤ u64) (small : length c ≤ u64) (rest : Joined) where
+  hear-says : (a : Answer) → AnswerIn bytes (length c) a → ((number : ℕ) → a ≡ refused number → (15 ≤ number) × (number ≤ 19))
       → hear (answerTold a) c (bytesOf (itemWords n a)) (joinedTold rest) ≡ joinedTold (join n c rest a)
   hear-says (export len x) l g =
       let v = first-word n (exportWords len x) few in
-      let m = second-word n len _ (omega arith) in
-      let e = behind-first n (exportWords len x) ∙ ap (λ (k : ℕ). bytesOf (exportWords k x)) (sym (length-take-le len c l)) in
-      λ j. said (record { name = take (m j) c; bytes = e j } ∷ map symbolTold (rest .exports)) (v j + rest .visits) (endingTold (rest .ending))
+      let k : len ≤ u64 = omega (arith, l .0) in
+      let m = name-word n len x k in
+      let e = export-words n len x k bytes short (l .1) ∙ ap (λ (m : ℕ). exportWords m x) (sym (length-take-le len c (l .0))) in
+      λ j. said (record { name = take (m j) c; words = e j } ∷ map symbolTold (rest .exports)) (v j + rest .visits) (endingTold (rest .ending))
   hear-says more l g =
       let v = first-word n _ few in
       λ j. said (map symbolTold (rest .exports)) (v j + rest .visits) (endingTold (rest .ending))
@@ -79,8 +63,8 @@ module _ (s : List ℕ) where
       ap (λ (q : ℕ × List ℕ × List ℕ × List ℕ). hear (q .0) (q .2) (q .3) (callsThrough s (q .1) (q .2) (q .3) ks)) (carried w t s k b item l)
       ∙ ap (hear (answerTold (p .0 .answer)) (p .1) told)
       (through ks (p .0 .walk) (p .1) told (subst (Lent s) (sym (r .long)) lent) (r .typed) (item-long (p .0 .visits) (p .0 .answer)) (λ i. m (suc i)))
-      ∙ hear-says (p .0 .visits) (p .1) (omega (arith, r .visits, m 0)) (omega (arith, r .long, lent .small)) (calls s (p .0 .walk) (p .1) ks) (p .0 .answer)
-      (subst (λ (room : ℕ). Names room (p .0 .answer)) (sym (r .long)) (r .name)) (λ number e. refused-number s k w b e)
+      ∙ hear-says (p .0 .visits) (p .1) (omega (arith, r .visits, m 0)) (length s) (omega (arith, lent .short)) (omega (arith, r .long, lent .small)) (calls s (p .0 .walk) (p .1) ks) (p .0 .answer)
+      (subst (λ (room : ℕ). AnswerIn (length s) room (p .0 .answer)) (sym (r .long)) (r .answer)) (λ number e. refused-number s k w b e)
 
   -- so from any bytes that are those of a state, made up or not
   pub through-held : (ks state b item : List ℕ) → Lent s (length b) → Bytes state → holds state ≡ true → length item ≡ itemLong → ((i : ℕ) → getD ks i 0 ≤ u64)

@@ -5,18 +5,18 @@ use mathlib.Core.Bool.{cond}
 use mathlib.Core.List.{List, [], _∷_, map}
 use mathlib.Core.Option.{Option, none, some}
 use lib.Dec.{eqb}
-use lib.ListN.{length, take, drop}
+use lib.ListN.{length, take}
 use Rattle.packed_trie.specs.Packed.{states, exportWords, stepped}
 use Rattle.packing.specs.Boundary.{itemTold, endTold, moreTold, started}
-use Rattle.packing.specs.Words.{wordAt, bytesOf}
+use Rattle.packing.specs.Words.{wordAt, wordsFrom}
 use Rattle.runs.specs.Runs.{begun}
 use Rattle.trie.specs.Call.{atStart}
 use Rattle.trie.specs.Joined.{Symbol, Ending, atEnd, atRefusal, Joined}
 
--- an export: its name, and the bytes of the item behind the visits
+-- an export: its name, and the words of the item behind the visits
 pub record Entry : Type 0 where
   pub name : List ℕ
-  pub bytes : List ℕ
+  pub words : List ℕ
 
 -- the exports, the sum of the visits, and the answer that ended it, if one has
 pub record Said : Type 0 where
@@ -34,7 +34,7 @@ abbrev pub visitsOf : (item : List ℕ) → ℕ
 visitsOf item = wordAt item 0
 
 abbrev pub entryOf : (name item : List ℕ) → Entry
-entryOf name item = record { name = take (wordAt item 1) name; bytes = drop 8 item }
+entryOf name item = record { name = take (wordAt item 1) name; words = wordsFrom item 1 8 }
 
 -- a call that answered n and left these bytes, and then the rest
 abbrev pub hear : (n : ℕ) (name item : List ℕ) → (rest : Said) → Said
@@ -58,7 +58,7 @@ throughStart s state name item limits = callsThrough s (started states state (be
 -- ---- of the walk
 
 abbrev pub symbolTold : Symbol → Entry
-symbolTold x = record { name = x .name; bytes = bytesOf (exportWords (length (x .name)) (x .export)) }
+symbolTold x = record { name = x .name; words = exportWords (length (x .name)) (x .export) }
 
 abbrev pub endingTold : Option Ending → Option ℕ
 endingTold none = none

@@ -95,6 +95,16 @@ words-below s h i zero j = omega arith
 words-below s h i (suc n) zero = word-below s h i
 words-below s h i (suc n) (suc j) = words-below s h (i + 1) n j
 
+-- words by what stands at each index
+pub words-back : (s l : List ℕ) (first : ℕ) → ((i : ℕ) → i < length l → wordAt s (first + i) ≡ getD l i 0) → wordsFrom s first (length l) ≡ l
+unfolding wordsFrom
+words-back s [] first h = refl
+words-back s (x ∷ l) first h =
+    let z : first ≡ first + 0 = omega arith in
+    let next : (i : ℕ) → i < length l → wordAt s (first + 1 + i) ≡ getD l i 0 =
+    λ i k. let e : first + 1 + i ≡ first + suc i = omega arith in ap (wordAt s) e ∙ h (suc i) (omega arith) in
+    (λ j. (ap (wordAt s) z ∙ h 0 (omega arith)) j ∷ words-back s l (first + 1) next j)
+
 -- ---- fields
 
 pub flag-whole : (v : ℕ) → v ≤ 1 → bit (isSet v) ≡ v
