@@ -2,7 +2,7 @@
 use Prim.Native.Nat.{ℕ, zero, suc, _+_, _*_, _≤_, _<_}
 use mathlib.Core.Path.{_≡_, refl, sym, ap, _∙_}
 use mathlib.Core.Bool.{Bool, true, false}
-use mathlib.Core.List.{List, [], _∷_, _++_}
+use mathlib.Core.List.{List, _++_}
 use native.Mathlib.Omega.{arith}
 use borrow.Author.Tests.{le-leb, eq-eqb}
 use lib.ListN.{length, take, drop, getD, length-append, length-drop, List·getD-append}
@@ -13,7 +13,7 @@ use Rattle.numbers.specs.Then.{thenNumber}
 use Rattle.packed_trie.proofs.Steps.{by-state}
 use Rattle.packed_trie.specs.Packed.{stateLong, stateWords, stateBytes, stateAt, holds, itemLong, stepTold, stepped}
 use Rattle.packing.proofs.Back.{word-back, flag-back}
-use Rattle.packing.proofs.Whole.{words-back}
+use Rattle.packing.proofs.Whole.{Bytes, append-each, bytes-written, words-back}
 use Rattle.packing.proofs.Words.{length-bytes}
 use Rattle.packing.specs.Fields.{u64, isSet, bit}
 use Rattle.packing.specs.Words.{wordsFrom, wordAt, bytesOf}
@@ -31,12 +31,6 @@ word-front s t i h =
     rw (le-leb (8 * i + 8) (length (s ++ t)) (omega (arith, length-append s t)), le-leb (8 * i + 8) (length s) h)
     (ap (fromDigits 256) part)
 
--- words one behind the other, all of them small enough
-append-most : (xs ys : List ℕ) (largest : ℕ) → ((i : ℕ) → getD xs i 0 ≤ largest) → ((i : ℕ) → getD ys i 0 ≤ largest) → (i : ℕ) → getD (xs ++ ys) i 0 ≤ largest
-append-most [] ys largest f g i = g i
-append-most (x ∷ xs) ys largest f g zero = f 0
-append-most (x ∷ xs) ys largest f g (suc i) = append-most xs ys largest (λ j. f (suc j)) g i
-
 flag-most : (b : Bool) → bit b ≤ 1
 flag-most true = omega arith
 flag-most false = omega arith
@@ -47,7 +41,7 @@ module _ (w : TrieWalk) (t : Typed w) where
   words-most (suc zero) = omega (arith, flag-most (w .begun))
   words-most (suc (suc zero)) = omega (arith, flag-most (w .ended))
   words-most (suc (suc (suc i))) =
-      append-most (w .places ++ w .offsets) (w .lengths) u64 (append-most (w .places) (w .offsets) u64 (t .places .each) (t .offsets .each)) (t .lengths .each) i
+      append-each (λ v. v ≤ u64) (w .places ++ w .offsets) (w .lengths) (append-each (λ v. v ≤ u64) (w .places) (w .offsets) (t .places .each) (t .offsets .each)) (t .lengths .each) i
 
   long : length (bytesOf (stateWords w)) ≡ 8 * (3 + 3 * most)
   long =
@@ -114,6 +108,10 @@ module _ (w : TrieWalk) (t : Typed w) where
       let e₁ : wordAt (stateBytes w) 1 ≤ 1 = omega (arith, back 1 (omega arith), flag-most (w .begun)) in
       let e₂ : wordAt (stateBytes w) 2 ≤ 1 = omega (arith, back 2 (omega arith), flag-most (w .ended)) in
       rw (eq-eqb (length (stateBytes w)) stateLong n, le-leb (wordAt (stateBytes w) 1) 1 e₁, le-leb (wordAt (stateBytes w) 2) 1 e₂)
+
+  pub state-bytes : Bytes (stateBytes w)
+  unfolding stateBytes
+  state-bytes = append-each (λ v. v < 256) (bytesOf (stateWords w)) (w .left) (bytes-written (stateWords w)) (λ i. omega (arith, t .left .each i))
 
   -- so a call on the bytes of a state is a call on the state
   pub carried : (s : List ℕ) (limit : ℕ) (name told : List ℕ) → length told ≡ itemLong →

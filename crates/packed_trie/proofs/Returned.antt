@@ -8,7 +8,7 @@ use native.Mathlib.Omega.{arith}
 use borrow.Author.Tests.{eqb-true}
 use lib.Dec.{eqb}
 use lib.ListN.{length}
-use Rattle.packed_trie.proofs.Carried.{whole, carried}
+use Rattle.packed_trie.proofs.Carried.{whole, state-bytes, carried}
 use Rattle.packed_trie.proofs.Steps.{by-state}
 use Rattle.packed_trie.proofs.Whole.{bytes-back, typed-at}
 use Rattle.packed_trie.specs.Packed.{stateBytes, holds, stateAt, itemWords, itemLong, answerTold, stepTold, stepped}
@@ -71,6 +71,12 @@ module _ (s : List ℕ) (limit : ℕ) (state name told : List ℕ) where
       (λ l h e.
       let r = walk.returned s limit (stateAt state) name (is-refused (call s limit (stateAt state) name .0 .answer) e) in
       (ap (λ (p : Reply × List ℕ). stateBytes (p .0 .walk)) r ∙ bytes-back state b h, ap (λ (p : Reply × List ℕ). p .1) r))
+
+  -- what a step leaves of a state are bytes
+  pub bytes-left : Lent s (length name) → Bytes state → Bytes (stepped s limit state name told .1)
+  bytes-left lent b =
+      stepped-by (λ (p : Written). Bytes (p .1)) b
+      (λ l h. let w = stateAt state in state-bytes (call s limit w name .0 .walk) (typed-call s limit w name lent (typed-at state b h) .typed))
 
 -- ---- limit 0
 

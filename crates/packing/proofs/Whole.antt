@@ -27,6 +27,24 @@ bytes-drop zero s h = h
 bytes-drop (suc k) [] h = h
 bytes-drop (suc k) (d ∷ s) h = bytes-drop k s (λ i. h (suc i))
 
+-- what holds of each of two lists holds of each of both
+pub append-each : (P : ℕ → Type 0) (xs ys : List ℕ) → ((i : ℕ) → P (getD xs i 0)) → ((i : ℕ) → P (getD ys i 0)) → (i : ℕ) → P (getD (xs ++ ys) i 0)
+append-each P [] ys f g i = g i
+append-each P (x ∷ xs) ys f g zero = f 0
+append-each P (x ∷ xs) ys f g (suc i) = append-each P xs ys (λ j. f (suc j)) g i
+
+-- what is written are bytes
+digits-bytes : (n v : ℕ) → Bytes (toDigits 256 n v)
+unfolding toDigits
+digits-bytes zero v i = omega arith
+digits-bytes (suc n) v zero = omega arith
+digits-bytes (suc n) v (suc i) = digits-bytes n (v / 256) i
+
+pub bytes-written : (vs : List ℕ) → Bytes (bytesOf vs)
+unfolding bytesOf
+bytes-written [] = λ i. omega arith
+bytes-written (v ∷ vs) = append-each (λ b. b < 256) (wordBytes v) (bytesOf vs) (digits-bytes 8 v) (bytes-written vs)
+
 -- ---- a word
 
 digits-whole : (n : ℕ) (s : List ℕ) → Bytes s → n ≤ length s → toDigits 256 n (fromDigits 256 (take n s)) ≡ take n s

@@ -27,6 +27,7 @@ pub record Array (largest : ℕ) (xs : List ℕ) : Type 0 where
   pub long : length xs ≡ most
   pub each : (i : ℕ) → getD xs i 0 ≤ largest
 
+-- places, offsets, children left, lengths and depth
 pub record Fields (p o l n : List ℕ) (d : ℕ) : Type 0 where
   pub places : Array (2 ^ 64 - 1) p
   pub offsets : Array (2 ^ 64 - 1) o
