@@ -86,7 +86,7 @@ pub waited : (s state name told : List ℕ) → Bytes state → (stepped s 0 sta
 waited s state name told b n e =
     let f = fit s 0 state name told n in
     by-state s 0 state name told (f .long) (f .held)
-    ∙ ap stepTold (walk.waited s 0 (stateAt state) name (f .range) (ap isSet e))
+    ∙ ap stepTold (walk.waited s (stateAt state) name (f .range) (ap isSet e))
     ∙ ap (λ (z : List ℕ). (moreTold, z, name, bytesOf (itemWords 0 more))) (bytes-back state b (f .held))
 
 -- ---- after the end or a refusal

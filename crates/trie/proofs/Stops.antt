@@ -96,10 +96,10 @@ module _ (s : List ℕ) (limit : ℕ) (w : TrieWalk) (b : List ℕ) (range : InR
   pub kept-range : halts (call s limit w b .0 .answer) ≡ true → InRange s (length b) (call s limit w b .0 .walk)
   kept-range q = over-by (call s limit w b .0 .answer) (call s limit w b .0 .walk) call-leaves q .range
 
-  -- limit 0 changes nothing
-  pub waited : w .ended ≡ false → call s zero w b ≡ replied more w 0 b
-  unfolding goOn
-  waited e = goes-on s zero w b range e
+-- limit 0 changes nothing
+pub waited : (s : List ℕ) (w : TrieWalk) (b : List ℕ) → InRange s (length b) w → w .ended ≡ false → call s zero w b ≡ replied more w 0 b
+unfolding goOn
+waited s w b range e = goes-on s zero w b range e
 
 -- ---- of any state
 
