@@ -1,6 +1,6 @@
 -- The registers of a bind walk are such as their types have, and stay so. Assumes nothing.
 use Prim.Native.Nat.{ℕ, _^_, _<_}
-use mathlib.Core.Path.{_≡_, refl}
+use mathlib.Core.Path.{_≡_, refl, sym, subst}
 use mathlib.Core.Bool.{Bool, true, false, cond}
 use mathlib.Core.List.{List}
 use native.Mathlib.Omega.{arith}
@@ -12,6 +12,7 @@ use mir.Syntax.{w32, w64}
 use mir.Val.{SFits}
 use Rattle.cursor.proofs.Typed.{Counted}
 use Rattle.cursor.specs.declared.Motion.the-variants.{Stays, Restarts, Ends, Refuses}
+use Rattle.listing.proofs.Answers.{KeepsRegisters}
 use Rattle.listing.proofs.Typed as typed
 use Rattle.listing.specs.Call.{State, call}
 use Rattle.listing.specs.Machine.{_and_}
@@ -34,7 +35,9 @@ use Rattle.operations.specs.declared.bind_operation.BindOperation.the-variants.
 use Rattle.refusal.proofs.Numbered.{IsNumber}
 use Rattle.refusal.specs.declared.Refusal.the-variants.{OrdinalTooLarge}
 use Rattle.runs.proofs.Walks.{Hands}
+use Rattle.runs.specs.Runs.{item}
 use Rattle.bind.specs.Binds.{unset, withLibrary, withType, plainly, weakly, lazily, effectOf, binds}
+use Rattle.bind.specs.declared.Bind.{Bind}
 use Rattle.bind.specs.declared.Registers.{Registers}
 
 pub record TypedRegisters (g : Registers) : Type 0 where
@@ -126,9 +129,30 @@ module _ (s : List ℕ) (short : length s < 2 ^ 64) (size : ℕ) (g : Registers)
   counted (DoBindAddAddrScaled count) b = omega arith
   counted (DoBindTimesSkipping count skip) b = b
 
--- every call on a state whose fields are such as their types have hands such a state back
-pub typed-call : (s : List ℕ) → length s < 2 ^ 64 → (w : State Registers) → typed.Typed TypedRegisters w → Hands (typed.Typed TypedRegisters) IsNumber (call binds s w)
-typed-call s short =
-    typed.typed-call binds s short TypedRegisters
-    (λ size at next op g e t. stays s short size g op (bind-typed s at e) t)
-    (λ size at next op g e. counted s short size g op (bind-typed s at e))
+pub record TypedBind (x : Bind) : Type 0 where
+  pub segment : x .segment < 2 ^ 8
+  pub offset : x .offset < 2 ^ 64
+  pub kind : x .kind < 2 ^ 8
+  pub library : SFits w32 (x .library)
+  pub place : x .place < 2 ^ 64
+  pub length : x .length < 2 ^ 64
+  pub flags : x .flags < 2 ^ 8
+  pub addend : SFits w64 (x .addend)
+
+-- every call on a state whose fields are such as their types have hands such a state back, and such items
+module _ (s : List ℕ) (short : length s < 2 ^ 64) (w : State Registers) (t : typed.Typed TypedRegisters w) where
+  abbrev keeps : KeepsRegisters binds s TypedRegisters
+  keeps size at next op g e b = stays s short size g op (bind-typed s at e) b
+
+  abbrev counts : typed.Counts binds s
+  counts size at next op g e = counted s short size g op (bind-typed s at e)
+
+  pub typed-call : Hands (typed.Typed TypedRegisters) IsNumber (call binds s w)
+  typed-call = typed.typed-call binds s short TypedRegisters keeps counts w t
+
+  pub typed-item : {x : Bind} {v : State Registers} → call binds s w ≡ item x v → TypedBind x
+  typed-item e =
+      let m = typed.typed-item binds s short TypedRegisters keeps counts w t e in
+      let g = m .typed in
+      subst TypedBind (sym (m .is))
+      (record { segment = g .segment; offset = m .below; kind = g .kind; library = g .library; place = g .place; length = g .length; flags = g .flags; addend = g .addend })

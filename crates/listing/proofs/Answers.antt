@@ -27,6 +27,10 @@ abbrev pub KeepsRegisters : (M : Machine) → List ℕ → (M .Reg → Type 0) �
 KeepsRegisters M s P =
     (size at next : ℕ) (op : M .Op) (g : M .Reg) → operationAt (M .table) s at ≡ operation op next → P g → P (M .effect size op g .registers)
 
+-- nothing is asked of offsets
+abbrev pub Any : ℕ → Type 0
+Any o = Unit {0}
+
 -- what asks nothing of the cursor holds wherever it is moved
 anywhere : {P : Type 0} → P → (m : Moved) → IfMoved (λ c. P) m
 anywhere p (moved.On c) = p
@@ -39,21 +43,23 @@ by-registers M s P keeps v at next op e p =
     let did = M .effect (v .cursor .size) op (v .registers) in
     anywhere (keeps (v .cursor .size) at next op (v .registers) e p) (movedOf (v .cursor) next (did .motion))
 
-module _ (M : Machine) (s : List ℕ) (P : State (M .Reg) → Type 0) (keeps : Keeps M s P) (w : State (M .Reg)) (Q : Answer (State (M .Reg)) (M .Item) → Type 0)
-    (gives : (o : ℕ) (v : State (M .Reg)) → P v → Q (item (M .item (v .registers) o) v))
+-- O is asked of the offset of an item
+module _ (M : Machine) (s : List ℕ) (P : State (M .Reg) → Type 0) (keeps : Keeps M s P) (O : ℕ → Type 0) (offsets : (v : State (M .Reg)) → P v → O (v .cursor .offset))
+    (w : State (M .Reg)) (Q : Answer (State (M .Reg)) (M .Item) → Type 0)
+    (gives : (o : ℕ) (v : State (M .Reg)) → O o → P v → Q (item (M .item (v .registers) o) v))
     (ends : (v : State (M .Reg)) → P v → Q (end v)) (refuses : (e : Refusal) → Q (refusal w e)) where
-  pub by-due : (o : ℕ) (v : State (M .Reg)) → P v → (l : Lack) → Q (due M w o v l)
+  pub by-due : (o : ℕ) (v : State (M .Reg)) → O o → P v → (l : Lack) → Q (due M w o v l)
   unfolding due
-  by-due o v p Nothing = gives o v p
-  by-due o v p (Lacks e) = refuses e
+  by-due o v q p Nothing = gives o v q p
+  by-due o v q p (Lacks e) = refuses e
 
-  by-moved : (o : ℕ) (g : M .Reg) (rest : State (M .Reg) → Answer (State (M .Reg)) (M .Item)) →
+  by-moved : (o : ℕ) → O o → (g : M .Reg) (rest : State (M .Reg) → Answer (State (M .Reg)) (M .Item)) →
       ((v : State (M .Reg)) → P v → Q (rest v)) → (m : Moved) → IfMoved (λ c. P (state c g)) m → Q (answered M w o g rest m)
   unfolding answered
-  by-moved o g rest h (moved.On c) p = h (state c g) p
-  by-moved o g rest h (moved.Due c) p = by-due o (state c g) p (M .lack g)
-  by-moved o g rest h (moved.End c) p = ends (state c g) p
-  by-moved o g rest h (moved.Refused e) p = refuses e
+  by-moved o q g rest h (moved.On c) p = h (state c g) p
+  by-moved o q g rest h (moved.Due c) p = by-due o (state c g) q p (M .lack g)
+  by-moved o q g rest h (moved.End c) p = ends (state c g) p
+  by-moved o q g rest h (moved.Refused e) p = refuses e
 
   pub by-read : (xs : Stream (M .Op)) (at : ℕ) → streamAt M s at ≡ xs → (v : State (M .Reg)) → P v → Q (read M w xs v)
   unfolding read
@@ -62,5 +68,5 @@ module _ (M : Machine) (s : List ℕ) (P : State (M .Reg) → Type 0) (keeps : K
   by-read (one position op next rest) at same v p =
       let b = behind M s at same in
       let did = M .effect (v .cursor .size) op (v .registers) in
-      by-moved (v .cursor .offset) (did .registers) (read M w rest) (by-read rest next (b .same))
+      by-moved (v .cursor .offset) (offsets v p) (did .registers) (read M w rest) (by-read rest next (b .same))
       (movedOf (v .cursor) next (did .motion)) (keeps v at next op (b .parsed) p)

@@ -9,7 +9,7 @@ use Rattle.cursor.specs.declared.Standing.the-variants as standing
 use Rattle.listing.specs.Call.{State, state, called, call}
 use Rattle.listing.specs.Machine.{Machine}
 use Rattle.listing.specs.Stream.{streamAt}
-use Rattle.listing.proofs.Answers.{KeepsRegisters, by-registers, by-due, by-read}
+use Rattle.listing.proofs.Answers.{KeepsRegisters, Any, by-registers, by-due, by-read}
 use Rattle.listing.proofs.Runs.{call-by}
 use Rattle.runs.specs.Runs.{Answer, item, end, refused}
 
@@ -26,16 +26,16 @@ module _ (M : Machine) (s : List ℕ) (P : M .Reg → Type 0) (keeps : KeepsRegi
   Holds (refused e v) = P (v .registers)
 
   module _ (w : State (M .Reg)) (p : P (w .registers)) where
-    made : (o : ℕ) (v : State (M .Reg)) → P (v .registers) → Gives (M .item (v .registers) o) v
-    made o v q = record { offset = o; is = refl; holds = q }
+    made : (o : ℕ) (v : State (M .Reg)) → Any o → P (v .registers) → Gives (M .item (v .registers) o) v
+    made o v a q = record { offset = o; is = refl; holds = q }
 
     holds-called : (x : Standing) → Holds (called M w s x)
     holds-called standing.OutOfRange = p
     holds-called standing.Ended = p
     holds-called (standing.Due c) =
-        by-due M s (λ v. P (v .registers)) (by-registers M s P keeps) w Holds made (λ v q. q) (λ e. p) (w .cursor .offset) (state c (w .registers)) p (M .lack (w .registers))
+        by-due M s (λ v. P (v .registers)) (by-registers M s P keeps) Any (λ v q. tt) w Holds made (λ v q. q) (λ e. p) (w .cursor .offset) (state c (w .registers)) tt p (M .lack (w .registers))
     holds-called standing.Reading =
-        by-read M s (λ v. P (v .registers)) (by-registers M s P keeps) w Holds made (λ v q. q) (λ e. p) (streamAt M s (w .cursor .at)) (w .cursor .at) refl w p
+        by-read M s (λ v. P (v .registers)) (by-registers M s P keeps) Any (λ v q. tt) w Holds made (λ v q. q) (λ e. p) (streamAt M s (w .cursor .at)) (w .cursor .at) refl w p
 
     pub held : {a : Answer (State (M .Reg)) (M .Item)} → call M s w ≡ a → Holds a
     held e =

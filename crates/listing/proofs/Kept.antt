@@ -9,7 +9,7 @@ use Rattle.cursor.specs.declared.Standing.the-variants as standing
 use Rattle.listing.specs.Call.{State, state, called, call}
 use Rattle.listing.specs.Machine.{Machine}
 use Rattle.listing.specs.Stream.{streamAt}
-use Rattle.listing.proofs.Answers.{Keeps, by-registers, by-due, by-read}
+use Rattle.listing.proofs.Answers.{Keeps, Any, by-registers, by-due, by-read}
 use Rattle.listing.proofs.Runs.{call-by}
 use Rattle.runs.specs.Runs.{Answer, item, end, refused}
 
@@ -24,17 +24,17 @@ module _ (M : Machine) (w : State (M .Reg)) where
 
   module _ (s : List ℕ) where
     -- nothing is asked of the states
-    abbrev Any : State (M .Reg) → Type 0
-    Any v = Unit {0}
+    abbrev AnyState : State (M .Reg) → Type 0
+    AnyState v = Unit {0}
 
-    anyhow : Keeps M s Any
+    anyhow : Keeps M s AnyState
     anyhow = by-registers M s (λ g. Unit {0}) (λ size at next op g e p. tt)
 
     refused-live : (n : ℕ) → IfRefused (called M w s (liveStanding (w .cursor) n))
     refused-live zero =
-        by-read M s Any anyhow w IfRefused (λ o v p. tt) (λ v p. tt) (λ e. refl) (streamAt M s (w .cursor .at)) (w .cursor .at) refl w tt
+        by-read M s AnyState anyhow Any (λ v p. tt) w IfRefused (λ o v q p. tt) (λ v p. tt) (λ e. refl) (streamAt M s (w .cursor .at)) (w .cursor .at) refl w tt
     refused-live (suc n) =
-        by-due M s Any anyhow w IfRefused (λ o v p. tt) (λ v p. tt) (λ e. refl) (w .cursor .offset) _ tt (M .lack (w .registers))
+        by-due M s AnyState anyhow Any (λ v p. tt) w IfRefused (λ o v q p. tt) (λ v p. tt) (λ e. refl) (w .cursor .offset) _ tt tt (M .lack (w .registers))
 
     refused-in-range : (d : Bool) → IfRefused (called M w s (cond d standing.Ended (liveStanding (w .cursor) (w .cursor .remaining))))
     refused-in-range true = tt

@@ -23,7 +23,7 @@ use Rattle.operations.specs.Table.{operation, operationAt}
 use Rattle.refusal.proofs.Numbered.{IsNumber, is-number}
 use Rattle.refusal.specs.declared.Refusal.the-variants.{StateOutOfRange}
 use Rattle.runs.proofs.Walks.{Hands}
-use Rattle.runs.specs.Runs.{begun, Answer}
+use Rattle.runs.specs.Runs.{begun, Answer, item, end, refused}
 
 -- the cursor's fields, and what the registers' types say
 pub record Typed {Reg : Type 0} (P : Reg → Type 0) (w : State Reg) : Type 0 where
@@ -36,9 +36,11 @@ typed-begin P size g p e =
     let b = begun-is size g e in
     subst (Typed P) (sym (b .is)) (record { cursor = cursor.typed-start size (byte-size (b .sized)); registers = p })
 
--- a call
-module _ (M : Machine) (s : List ℕ) (short : length s < 2 ^ 64) (P : M .Reg → Type 0) (keeps : KeepsRegisters M s P)
-    (counts : (size at next : ℕ) (op : M .Op) (g : M .Reg) → operationAt (M .table) s at ≡ operation op next → Counted (M .effect size op g .motion)) where
+-- a call: no operation of the stream has a repeat whose count is no u64
+abbrev pub Counts : (M : Machine) → List ℕ → Type 0
+Counts M s = (size at next : ℕ) (op : M .Op) (g : M .Reg) → operationAt (M .table) s at ≡ operation op next → Counted (M .effect size op g .motion)
+
+module _ (M : Machine) (s : List ℕ) (short : length s < 2 ^ 64) (P : M .Reg → Type 0) (keeps : KeepsRegisters M s P) (counts : Counts M s) where
   both : (g : M .Reg) → P g → (m : Moved) → IfMoved cursor.Typed m → IfMoved (λ c. Typed P (state c g)) m
   both g p (moved.On c) t = record { cursor = t; registers = p }
   both g p (moved.Due c) t = record { cursor = t; registers = p }
@@ -52,23 +54,52 @@ module _ (M : Machine) (s : List ℕ) (short : length s < 2 ^ 64) (P : M .Reg �
       both (did .registers) (keeps (c .size) at next op (v .registers) e (t .registers)) (movedOf c next (did .motion))
       (cursor.typed-moved c (t .cursor) next (omega (arith, short, ends-within M s at e .inside)) (did .motion) (counts (c .size) at next op (v .registers) e))
 
-  module _ (w : State (M .Reg)) (t : Typed P w) where
-    abbrev Good : Answer (State (M .Reg)) (M .Item) → Type 0
-    Good = Hands (Typed P) IsNumber
+  -- an item is made of such registers, at such an offset
+  pub record Made (x : M .Item) : Type 0 where
+    pub registers : M .Reg
+    pub offset : ℕ
+    pub is : x ≡ M .item registers offset
+    pub typed : P registers
+    pub below : offset < 2 ^ 64
 
+  -- what is shown of each answer
+  abbrev Good : Answer (State (M .Reg)) (M .Item) → Type 0
+  Good (item x v) = Typed P v × Made x
+  Good (end v) = Typed P v
+  Good (refused number v) = Typed P v × IsNumber number
+
+  abbrev Below : ℕ → Type 0
+  Below o = o < 2 ^ 64
+
+  module _ (w : State (M .Reg)) (t : Typed P w) where
     ended : Typed P (state (markedEnded (w .cursor)) (w .registers))
     ended = record { cursor = cursor.typed-ended (t .cursor); registers = t .registers }
+
+    given : (o : ℕ) (v : State (M .Reg)) → Below o → Typed P v → Good (item (M .item (v .registers) o) v)
+    given o v h u = (u, record { registers = v .registers; offset = o; is = refl; typed = u .registers; below = h })
 
     by-standing : (x : Standing) → IfDue cursor.Typed x → Good (called M w s x)
     by-standing standing.OutOfRange d = (t, is-number StateOutOfRange)
     by-standing standing.Ended d = t
     by-standing (standing.Due c) d =
-        by-due M s (Typed P) keeps-typed w Good (λ o v u. u) (λ v u. u) (λ e. (ended, is-number e)) (w .cursor .offset) (state c (w .registers))
-        (record { cursor = d; registers = t .registers }) (M .lack (w .registers))
+        by-due M s (Typed P) keeps-typed Below (λ v u. u .cursor .offset) w Good given (λ v u. u) (λ e. (ended, is-number e))
+        (w .cursor .offset) (state c (w .registers)) (t .cursor .offset) (record { cursor = d; registers = t .registers }) (M .lack (w .registers))
     by-standing standing.Reading d =
-        by-read M s (Typed P) keeps-typed w Good (λ o v u. u) (λ v u. u) (λ e. (ended, is-number e)) (streamAt M s (w .cursor .at)) (w .cursor .at) refl w t
+        by-read M s (Typed P) keeps-typed Below (λ v u. u .cursor .offset) w Good given (λ v u. u) (λ e. (ended, is-number e))
+        (streamAt M s (w .cursor .at)) (w .cursor .at) refl w t
 
-    pub typed-call : Good (call M s w)
-    typed-call =
+    good : Good (call M s w)
+    good =
         subst Good (sym (call-by M s w refl))
         (by-standing (standingOf (w .cursor) (length s)) (cursor.typed-standing (w .cursor) (t .cursor) (length s)))
+
+    pub typed-call : Hands (Typed P) IsNumber (call M s w)
+    typed-call = by (call M s w) good
+      where
+        by : (a : Answer (State (M .Reg)) (M .Item)) → Good a → Hands (Typed P) IsNumber a
+        by (item x v) g = g .0
+        by (end v) g = g
+        by (refused number v) g = g
+
+    pub typed-item : {x : M .Item} {v : State (M .Reg)} → call M s w ≡ item x v → Made x
+    typed-item e = subst Good e good .1

@@ -5,8 +5,9 @@ use mathlib.Core.Bool.{Bool, true, false}
 use mathlib.Core.List.{List, [], _∷_}
 use native.Mathlib.Omega.{arith}
 use lib.ListN.{length, getD}
-use Rattle.bind.proofs.Typed.{TypedRegisters, typed-call}
+use Rattle.bind.proofs.Typed.{TypedRegisters, TypedBind, typed-call, typed-item}
 use Rattle.bind.specs.Binds.{binds}
+use Rattle.bind.specs.declared.Bind.{Bind}
 use Rattle.bind.specs.declared.Registers.{Registers}
 use Rattle.cursor.specs.Cursor.{inRange}
 use Rattle.listing.proofs.Joined.{joined}
@@ -22,12 +23,12 @@ use Rattle.packing.proofs.Whole.{Bytes, words-whole, flag-whole, signed-whole}
 use Rattle.packing.proofs.Words.{length-bytes}
 use Rattle.packing.specs.Boundary.{started, stepped}
 use Rattle.packing.specs.Calls.{lent, through, recorded}
-use Rattle.packing.specs.Fields.{isSet, bit, signedOf}
+use Rattle.packing.specs.Fields.{u8, u64, isSet, bit, signedOf}
 use Rattle.packing.specs.Words.{wordAt, wordsFrom, bytesOf}
 use Rattle.packed_bind.proofs.Signs.{i32-back, i32-fits}
 use Rattle.packed_bind.proofs.States.{state-is, state-fits, library-is}
-use Rattle.packed_bind.specs.Packed.{stateFields, isState, stateWords, stateAt, states, itemWords, items}
-use Rattle.runs.specs.Runs.{begun, Walks}
+use Rattle.packed_bind.specs.Packed.{stateFields, isState, stateWords, stateAt, states, itemWords, itemAt, items}
+use Rattle.runs.specs.Runs.{begun, item, Walks}
 
 -- ---- a state whose fields are such as their types have comes back from its bytes whole
 
@@ -145,19 +146,48 @@ faithful =
 long : Long items
 long x = length-bytes (itemWords x)
 
+-- ---- an item whose fields are such as their types have is the one that its record tells
+
+module _ (x : Bind) (t : TypedBind x) where
+  item-each : Each (itemWords x) (u8 ∷ u64 ∷ u8 ∷ u64 ∷ u64 ∷ u64 ∷ u8 ∷ u64 ∷ [])
+  item-each =
+      byte-field (word-field (byte-field (word-field (word-field (word-field (byte-field (word-field none (word-below (x .addend) (t .addend)))
+      (t .flags)) (t .length)) (t .place)) (word-below (x .library) (widened (x .library) (t .library)))) (t .kind)) (t .offset)) (t .segment)
+
+  item-back : (i : ℕ) → i < 8 → wordAt (items .bytes x) i ≡ getD (itemWords x) i 0
+  item-back i h = word-back (itemWords x) i h (each-at item-each i h)
+
+  tells : itemAt (items .bytes x) ≡ x
+  tells =
+      λ j.
+      record {
+        segment = item-back 0 (omega arith) j;
+        offset = item-back 1 (omega arith) j;
+        kind = item-back 2 (omega arith) j;
+        library = (ap signedOf (item-back 3 (omega arith)) ∙ narrow-back (x .library) (t .library)) j;
+        place = item-back 4 (omega arith) j;
+        length = item-back 5 (omega arith) j;
+        flags = item-back 6 (omega arith) j;
+        addend = (ap signedOf (item-back 7 (omega arith)) ∙ signed-back (x .addend) (t .addend)) j;
+      }
+
 -- ---- calls through the entry points
 
 module _ (s : List ℕ) (short : length s < 2 ^ 64) where
   -- from a start on they say what the stream lists; g is `plainly`, `weakly` or `lazily`, whose registers are `Typed` (bind/proofs/Typed.antt)
-  pub calls-list : (size : ℕ) (g : Registers) → TypedRegisters g → {w : State Registers} → begin size g ≡ begun w → (state item : List ℕ) → length state ≡ 144 → length item ≡ 64 →
-      Walks (through states items (call binds s)) (lent (started states state (begin size g) .1) item) (recorded items (listing.heard (listing.listing binds size g s)))
+  pub calls-list : (size : ℕ) (g : Registers) → TypedRegisters g → {w : State Registers} → begin size g ≡ begun w → (state told : List ℕ) → length state ≡ 144 → length told ≡ 64 →
+      Walks (through states items (call binds s)) (lent (started states state (begin size g) .1) told) (recorded items (listing.heard (listing.listing binds size g s)))
   calls-list size g t {w} e =
       started-say states items (Typed TypedRegisters) faithful long (call binds s) (typed-call s short) e
       (typed-begin TypedRegisters size g t e) (joined binds s size g w e)
 
+  -- the record of every item that is yielded tells which it is
+  pub items-back : (w : State Registers) → Typed TypedRegisters w → {x : Bind} {v : State Registers} → call binds s w ≡ item x v → itemAt (items .bytes x) ≡ x
+  items-back w t {x} e = tells x (typed-item s short w t e)
+
   -- a state out of range comes back as it came
-  pub out-of-range-back : (state item : List ℕ) → Bytes state → isState state ≡ true → length item ≡ 64 → inRange (stateAt state .cursor) (length s) ≡ false →
-      stepped states items state item (call binds s) ≡ (19, state, items .blank)
-  out-of-range-back state item b h l r =
-      refused-back states items (Typed TypedRegisters) faithful long (call binds s) (typed-call s short) state b h item l
+  pub out-of-range-back : (state told : List ℕ) → Bytes state → isState state ≡ true → length told ≡ 64 → inRange (stateAt state .cursor) (length s) ≡ false →
+      stepped states items state told (call binds s) ≡ (19, state, items .blank)
+  out-of-range-back state told b h l r =
+      refused-back states items (Typed TypedRegisters) faithful long (call binds s) (typed-call s short) state b h told l
       (out-of-range binds (stateAt state) s r)

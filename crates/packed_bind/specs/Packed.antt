@@ -120,6 +120,20 @@ itemWords x =
     ∷ unsignedOf (x .addend)
     ∷ []
 
+-- which item a record tells
+abbrev pub itemAt : List ℕ → Bind
+itemAt s =
+    record {
+      segment = wordAt s 0;
+      offset = wordAt s 1;
+      kind = wordAt s 2;
+      library = signedOf (wordAt s 3);
+      place = wordAt s 4;
+      length = wordAt s 5;
+      flags = wordAt s 6;
+      addend = signedOf (wordAt s 7);
+    }
+
 abbrev pub items : Items Bind
 items =
     record {

@@ -18,13 +18,14 @@ use Rattle.packing.proofs.Whole.{Bytes, words-whole, flag-whole}
 use Rattle.packing.proofs.Words.{length-bytes}
 use Rattle.packing.specs.Boundary.{started, stepped}
 use Rattle.packing.specs.Calls.{lent, through, recorded}
-use Rattle.packing.specs.Fields.{fits, isSet, bit}
+use Rattle.packing.specs.Fields.{u8, u64, fits, isSet, bit}
 use Rattle.packing.specs.Words.{wordAt, wordsFrom, bytesOf}
-use Rattle.packed_rebase.specs.Packed.{stateFields, stateWords, stateAt, states, itemWords, items}
-use Rattle.rebase.proofs.Typed.{TypedRegisters, typed-unset, typed-call}
+use Rattle.packed_rebase.specs.Packed.{stateFields, stateWords, stateAt, states, itemWords, itemAt, items}
+use Rattle.rebase.proofs.Typed.{TypedRegisters, typed-unset, TypedRebase, typed-call, typed-item}
 use Rattle.rebase.specs.Rebases.{unset, rebases}
+use Rattle.rebase.specs.declared.Rebase.{Rebase}
 use Rattle.rebase.specs.declared.Registers.{Registers}
-use Rattle.runs.specs.Runs.{begun, Walks}
+use Rattle.runs.specs.Runs.{begun, item, Walks}
 
 -- ---- a state whose fields are such as their types have comes back from its bytes whole
 
@@ -110,19 +111,35 @@ faithful =
 long : Long items
 long x = length-bytes (itemWords x)
 
+-- ---- an item whose fields are such as their types have is the one that its record tells
+
+module _ (x : Rebase) (t : TypedRebase x) where
+  item-each : Each (itemWords x) (u8 ∷ u64 ∷ u8 ∷ [])
+  item-each = byte-field (word-field (byte-field none (t .kind)) (t .offset)) (t .segment)
+
+  item-back : (i : ℕ) → i < 3 → wordAt (items .bytes x) i ≡ getD (itemWords x) i 0
+  item-back i h = word-back (itemWords x) i h (each-at item-each i h)
+
+  tells : itemAt (items .bytes x) ≡ x
+  tells = λ j. record { segment = item-back 0 (omega arith) j; offset = item-back 1 (omega arith) j; kind = item-back 2 (omega arith) j }
+
 -- ---- calls through the entry points
 
 module _ (s : List ℕ) (short : length s < 2 ^ 64) where
   -- from a start on they say what the stream lists
-  pub calls-list : (size : ℕ) {w : State Registers} → begin size unset ≡ begun w → (state item : List ℕ) → length state ≡ 80 → length item ≡ 24 →
-      Walks (through states items (call rebases s)) (lent (started states state (begin size unset) .1) item) (recorded items (listing.heard (listing.listing rebases size unset s)))
+  pub calls-list : (size : ℕ) {w : State Registers} → begin size unset ≡ begun w → (state told : List ℕ) → length state ≡ 80 → length told ≡ 24 →
+      Walks (through states items (call rebases s)) (lent (started states state (begin size unset) .1) told) (recorded items (listing.heard (listing.listing rebases size unset s)))
   calls-list size {w} e =
       started-say states items (Typed TypedRegisters) faithful long (call rebases s) (typed-call s short) e
       (typed-begin TypedRegisters size unset typed-unset e) (joined rebases s size unset w e)
 
+  -- the record of every item that is yielded tells which it is
+  pub items-back : (w : State Registers) → Typed TypedRegisters w → {x : Rebase} {v : State Registers} → call rebases s w ≡ item x v → itemAt (items .bytes x) ≡ x
+  items-back w t {x} e = tells x (typed-item s short w t e)
+
   -- a state out of range comes back as it came
-  pub out-of-range-back : (state item : List ℕ) → Bytes state → fits state stateFields ≡ true → length item ≡ 24 → inRange (stateAt state .cursor) (length s) ≡ false →
-      stepped states items state item (call rebases s) ≡ (19, state, items .blank)
-  out-of-range-back state item b h l r =
-      refused-back states items (Typed TypedRegisters) faithful long (call rebases s) (typed-call s short) state b h item l
+  pub out-of-range-back : (state told : List ℕ) → Bytes state → fits state stateFields ≡ true → length told ≡ 24 → inRange (stateAt state .cursor) (length s) ≡ false →
+      stepped states items state told (call rebases s) ≡ (19, state, items .blank)
+  out-of-range-back state told b h l r =
+      refused-back states items (Typed TypedRegisters) faithful long (call rebases s) (typed-call s short) state b h told l
       (out-of-range rebases (stateAt state) s r)

@@ -59,6 +59,10 @@ states =
 abbrev pub itemWords : Rebase → List ℕ
 itemWords x = x .segment ∷ x .offset ∷ x .kind ∷ []
 
+-- which item a record tells
+abbrev pub itemAt : List ℕ → Rebase
+itemAt s = record { segment = wordAt s 0; offset = wordAt s 1; kind = wordAt s 2 }
+
 abbrev pub items : Items Rebase
 items =
     record {
