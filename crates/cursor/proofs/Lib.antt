@@ -1,4 +1,4 @@
+pub mod Accord
 pub mod Turns
 pub mod Bounds
 pub mod Typed
-pub mod Slips

@@ -1,5 +1,5 @@
+pub mod Accord
 pub mod Rows
 pub mod Cases
 pub mod Laws
 pub mod Typed
-pub mod Specials

@@ -1,3 +1,4 @@
+pub mod Accord
 pub mod Formats
 pub mod Moves
 pub mod Calls
@@ -7,4 +8,3 @@ pub mod Ahead
 pub mod Joined
 pub mod Kept
 pub mod Unique
-pub mod Slips

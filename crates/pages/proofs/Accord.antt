@@ -1,4 +1,5 @@
--- A page start of 0xffff is no list of chains, though it has the mark of one; 0x8000 alone is a list. Assumes nothing.
+-- In accord with the document where readers have slipped: a page start of 0xffff is no list of chains, though it has the mark of one; 0x8000
+-- alone is a list. Assumes nothing.
 use Prim.Native.Nat.{ℕ, _-_}
 use mathlib.Core.Path.{_≡_, refl}
 use mathlib.Core.List.{List}

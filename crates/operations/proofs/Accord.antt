@@ -1,4 +1,4 @@
--- Immediates of special libraries: 0 is 0, and is not sign-extended. Assumes nothing.
+-- In accord with the document where readers have slipped: the immediate 0 of a special library is 0, and is not sign-extended. Assumes nothing.
 use mathlib.Core.Path.{_≡_, refl}
 use mathlib.Core.List.{[], _∷_, map}
 use lib.IntN.{pos, negℤ}
