@@ -5,18 +5,15 @@ use mathlib.Core.List.{List, [], _∷_, _++_}
 use native.Mathlib.Omega.{arith}
 use native.Mathlib.Decide.{decLt}
 use borrow.Author.Tests.{le-leb}
-use lib.ListN.{length, take, drop, getD, length-drop}
+use lib.ListN.{length, take, drop, length-drop}
 use lib.Seq.{take-add, take-all, drop-drop}
+pub use Rattle.numbers.proofs.little_endian.Fields.{Bytes}
 use Rattle.numbers.specs.Digits.{fromDigits}
 use Rattle.numbers.specs.LittleEndian.{littleEndian, fieldAt}
 use Rattle.numbers.specs.Then.{thenNumber}
 use Rattle.packing.proofs.Signs.{positive, negative}
 use Rattle.packing.specs.Fields.{isSet, bit, signedOf, unsignedOf}
 use Rattle.packing.specs.Words.{wordAt, wordsFrom, toDigits, wordBytes, bytesOf}
-
--- what the bytes of a slice are known to be
-abbrev pub Bytes : List ℕ → Type 0
-Bytes s = (i : ℕ) → getD s i 0 < 256
 
 pub bytes-drop : (k : ℕ) (s : List ℕ) → Bytes s → Bytes (drop k s)
 bytes-drop zero s h = h
@@ -31,8 +28,8 @@ digits-whole zero s h l = refl
 digits-whole (suc n) [] h l = absurd (omega arith)
 digits-whole (suc n) (d ∷ s) h l =
     let v : ℕ = fromDigits 256 (take n s) in
-    let low : (d + 256 * v) % 256 ≡ d = omega (arith, h 0) in
-    let high : (d + 256 * v) / 256 ≡ v = omega (arith, h 0) in
+    let low : (d + 256 * v) % 256 ≡ d = omega (arith, h 0 .fits) in
+    let high : (d + 256 * v) / 256 ≡ v = omega (arith, h 0 .fits) in
     λ j. low j ∷ (ap (toDigits 256 n) high ∙ digits-whole n s (λ i. h (suc i)) (omega arith)) j
 
 pub word-whole : (s : List ℕ) → Bytes s → (i : ℕ) → 8 * i + 8 ≤ length s → wordBytes (wordAt s i) ≡ take 8 (drop (8 * i) s)
