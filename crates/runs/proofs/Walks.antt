@@ -3,7 +3,7 @@
 use Prim.Native.Nat.{ℕ}
 use mathlib.Core.Path.{_≡_, refl, ap, ap₂, sym, _∙_, subst}
 use native.Mathlib.Omega.{arith}
-use Rattle.runs.specs.Runs.{Answer, item, end, refused, Run, stops, fails, gives, _then_, Walks, at-end, at-refusal, at-item}
+use Rattle.runs.specs.Runs.{Begin, begun, notBegun, Answer, item, end, refused, Run, stops, fails, gives, _then_, Walks, at-end, at-refusal, at-item}
 
 pub then-stops : {Item : Type 0} (r : Run Item) → (r then stops) ≡ r
 unfolding _then_
@@ -17,6 +17,11 @@ then-then stops q p = refl
 then-then (fails number) q p = refl
 then-then (gives x r) q p = ap (gives x) (then-then r q p)
 
+-- of a start, what holds of the state that it gives
+abbrev pub IfBegun : {W : Type 0} → (W → Type 0) → Begin W → Type 0
+IfBegun P (begun w) = P w
+IfBegun P (notBegun number) = Unit {0}
+
 module _ {W Item : Type 0} where
   -- what an answer says, with what is ahead of the state that it hands back
   abbrev pub shown : (ahead : W → Run Item) → Answer W Item → Run Item
@@ -29,6 +34,12 @@ module _ {W Item : Type 0} where
   Stays P (item x v) = P v
   Stays P (end v) = Unit {0}
   Stays P (refused number v) = Unit {0}
+
+  -- of an item, what holds of it
+  abbrev pub IfItem : (Item → Type 0) → Answer W Item → Type 0
+  IfItem P (item x v) = P x
+  IfItem P (end v) = Unit {0}
+  IfItem P (refused number v) = Unit {0}
 
   -- of a refusal, what holds of the state that it hands back
   abbrev pub IfRefused : (W → Type 0) → Answer W Item → Type 0
