@@ -20,7 +20,8 @@ use Rattle.numbers.proofs.Then.{by-number, by-text}
 use Rattle.numbers.specs.LittleEndian.{fieldAt}
 use Rattle.numbers.specs.Parts.{partOf}
 use Rattle.numbers.specs.Strings.{stringAt}
-use Rattle.runs.specs.Runs.{Answer, item, end, refused}
+use Rattle.runs.proofs.Walks.{IfItem}
+use Rattle.runs.specs.Runs.{Answer, item}
 use Rattle.imports.proofs.Imports.{by-record}
 
 module _ (s : List ℕ) where
@@ -77,9 +78,7 @@ module _ (s : List ℕ) where
   -- ---- a call, from any state: `name` hands back the whole name
 
   abbrev Named : Answer ImportWalk Import → Type 0
-  Named (item x v) = length (partOf s (x .place) (x .length)) ≡ x .length
-  Named (end v) = Unit {0}
-  Named (refused number v) = Unit {0}
+  Named = IfItem (λ x. length (partOf s (x .place) (x .length)) ≡ x .length)
 
   module _ (w : ImportWalk) where
     imported-named : (left : ℕ) (x : ImportRead) → IfImport x → Named (imported w left x)
