@@ -1,0 +1,103 @@
+-- States whose fields are such as their types have: a start gives one, and every call on one hands one back. Refusals have a number of the
+-- table. Assumes nothing.
+use Prim.Native.Nat.{ℕ, _+_, _-_, _^_, _≤_, _<_}
+use mathlib.Core.Path.{_≡_, refl, subst}
+use mathlib.Core.Bool.{Bool, true, false}
+use mathlib.Core.List.{List}
+use native.Mathlib.Nat.{min-le-right}
+use native.Mathlib.Omega.{arith}
+use lib.Dec.{eqb}
+use lib.ListN.{length}
+use Rattle.chains.proofs.Typed.{TypedSegment}
+use Rattle.chains.specs.declared.Segment.{Segment}
+use Rattle.numbers.proofs.Picks.{by-pick}
+use Rattle.pages.proofs.Answers.{Keeps, by-call}
+use Rattle.pages.proofs.Calls.{call-out, call-ended}
+use Rattle.pages.proofs.Moves.{in-range, origin-within}
+use Rattle.pages.specs.Call.{startsOut, begin, marked, moved, onPage, toChain, toPointer, onward, farthest, outOfRange, call}
+use Rattle.pages.specs.ChainedPointers.{isFormat, nextOf, Fixed}
+use Rattle.pages.specs.declared.PageWalk.{PageWalk}
+use Rattle.refusal.proofs.Numbered.{IsNumber, is-number}
+use Rattle.refusal.specs.declared.Refusal.the-variants.{StateOutOfRange}
+use Rattle.runs.proofs.Walks.{IfBegun, Hands}
+use Rattle.runs.specs.Runs.{begun, Answer}
+
+pub record Typed (w : PageWalk) : Type 0 where
+  pub segment : TypedSegment (w .segment)
+  pub base : w .base < 2 ^ 64
+  pub page : w .page < 2 ^ 64
+  pub chain : w .chain < 2 ^ 64
+  pub origin : w .origin < 2 ^ 64
+  pub offset : w .offset < 2 ^ 64
+
+-- a start
+pub typed-begin : (s : List ℕ) (g : Segment) (base : ℕ) → TypedSegment g → base < 2 ^ 64 → {w : PageWalk} → begin s g base ≡ begun w → Typed w
+unfolding begin
+typed-begin s g base t h e =
+    subst (IfBegun Typed) e
+    (by-pick (IfBegun Typed) (startsOut g (length s)) _ _ tt
+    (by-pick (IfBegun Typed) (isFormat (g .format)) _ _
+    (record { segment = t; base = h; page = omega arith; chain = omega arith; origin = omega arith; offset = omega arith })
+    tt))
+
+-- ---- what becomes of a state; on the way the page is near
+
+record Near (w : PageWalk) : Type 0 where
+  typed : Typed w
+  near : w .origin ≤ farthest
+
+-- elsewhere
+typed-moved : (w : PageWalk) → Typed w → {linked more : Bool} {page chain origin offset : ℕ} → page < 2 ^ 64 → chain < 2 ^ 64 → origin < 2 ^ 64 → offset < 2 ^ 64 →
+    Typed (moved w linked more page chain origin offset)
+typed-moved w t p c o f = record { segment = t .segment; base = t .base; page = p; chain = c; origin = o; offset = f }
+
+near-page : (w : PageWalk) → w .page < w .segment .pages → Near w → Near (onPage w)
+near-page w l i =
+    let t = i .typed in
+    let n = origin-within {page = w .page} {size = w .segment .size} l (omega (arith, t .segment .pages)) (omega (arith, t .segment .size)) in
+    record { typed = typed-moved w t (omega (arith, t .segment .pages)) (t .chain) (omega (arith, n)) (t .offset); near = n }
+
+near-chain : (w : PageWalk) (index : ℕ) → index < 2 ^ 64 → Near w → Near (toChain index w)
+near-chain w index l i =
+    let t = i .typed in
+    record { typed = typed-moved w t (t .page) l (t .origin) (t .offset); near = i .near }
+
+near-pointer : (w : PageWalk) (more : Bool) (place : ℕ) → place < 0x8000 → Near w → Near (toPointer more (w .origin + place) w)
+near-pointer w more place l i =
+    let t = i .typed in
+    record { typed = typed-moved w t (t .page) (t .chain) (t .origin) (omega (arith, i .near)); near = i .near }
+
+keeps-near : Keeps Near
+keeps-near =
+    record {
+      on-page = near-page;
+      to-list = λ w index l. near-chain w index (omega arith);
+      next-chain = λ w l i. near-chain w (w .chain + 1) (omega (arith, i .typed .segment .count)) i;
+      to-pointer = near-pointer;
+    }
+
+typed-onward : (next : ℕ) (w : PageWalk) → Typed w → Typed (onward next w)
+unfolding onward
+typed-onward next w t =
+    by-pick Typed (eqb next 0) _ _ (typed-moved w t (t .page) (t .chain) (t .origin) (t .offset))
+    (typed-moved w t (t .page) (t .chain) (t .origin) (omega (arith, min-le-right (w .offset + next) (2 ^ 64 - 1))))
+
+typed-marked : (w : PageWalk) → Typed w → Typed (marked w)
+typed-marked w t =
+    record { segment = t .segment; base = t .base; page = t .page; chain = t .chain; origin = t .origin; offset = t .offset }
+
+-- ---- a call
+
+module _ (s d : List ℕ) (w : PageWalk) (t : Typed w) where
+  abbrev Good : Answer PageWalk Fixed → Type 0
+  Good = Hands Typed IsNumber
+
+  pub typed-call : Good (call s d w)
+  typed-call = by (outOfRange w (length s)) (w .ended) refl refl
+    where
+      by : (a b : Bool) → outOfRange w (length s) ≡ a → w .ended ≡ b → Good (call s d w)
+      by true b e f = subst Good (call-out s d w refl e) (t, is-number StateOutOfRange)
+      by false true e f = subst Good (call-ended s d w refl e f) t
+      by false false e f =
+          by-call s d w {I = Near} Good keeps-near (λ r. (typed-marked w t, is-number r)) (λ v i. i .typed)
+          (λ v n i. typed-onward (nextOf (v .segment .format) n) v (i .typed)) e f (record { typed = t; near = in-range s w e .near })
