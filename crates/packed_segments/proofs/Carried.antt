@@ -1,5 +1,4 @@
--- States of walks over segments, and records of segments, in bytes, both ways; and what calls in a row through the entry points say. Assumes
--- nothing.
+-- States of walks over segments in bytes, both ways; and what calls in a row through the entry points say. Assumes nothing.
 use Prim.Native.Nat.{ℕ, _+_, _*_, _^_, _≤_, _<_}
 use mathlib.Core.Path.{_≡_, refl, sym, ap, _∙_, subst}
 use mathlib.Core.Bool.{Bool, true, false, cond}
@@ -9,13 +8,13 @@ use lib.Dec.{ltb, eqb}
 use lib.ListN.{length, getD}
 use Rattle.chains.proofs.Inside.{out-of-range}
 use Rattle.chains.proofs.Joined.{joined}
-use Rattle.chains.proofs.Typed.{Typed, TypedSegment, typed-begin, typed-call, typed-segment}
+use Rattle.chains.proofs.Typed.{Typed, typed-begin, typed-call, typed-segment}
 use Rattle.chains.specs.Call.{begin, call}
 use Rattle.chains.specs.Heard.{heard, hear}
 use Rattle.chains.specs.Listing.{Entry, refusal, listing}
 use Rattle.chains.specs.declared.Segment.{Segment}
 use Rattle.chains.specs.declared.SegmentWalk.{SegmentWalk}
-use Rattle.packing.proofs.Back.{Each, none, word-field, half-field, each-at, word-back, fits-back}
+use Rattle.packing.proofs.Back.{Each, none, word-field, each-at, word-back, fits-back}
 use Rattle.packing.proofs.Calls.{Faithful, Long, Lends, wrote, calls-alike, refused-back}
 use Rattle.packing.proofs.Fields.{fits-long, at-most}
 use Rattle.packing.proofs.Whole.{Bytes, words-whole}
@@ -25,7 +24,8 @@ use Rattle.packing.specs.Calls.{Lent, lent}
 use Rattle.packing.specs.Fields.{fits}
 use Rattle.packing.specs.Words.{wordAt, wordsFrom, bytesOf}
 use Rattle.packed_segments.specs.Calls.{hearThrough, entryRecord}
-use Rattle.packed_segments.specs.Packed.{stateFields, stateWords, stateAt, states, segmentFields, segmentWords, segmentAt, items}
+use Rattle.packed_segments.specs.Packed.{stateFields, stateWords, stateAt, states, segmentWords, segmentAt, items}
+use Rattle.packed_segments.proofs.Segments.{segment-whole}
 use Rattle.runs.proofs.Alike.{Alike, walks-alike}
 use Rattle.runs.specs.Runs.{begun, Answer, item, end, refused, mapped, Walks}
 
@@ -70,49 +70,6 @@ faithful =
 
 long : Long items
 long x = length-bytes (segmentWords x)
-
--- ---- records of segments
-
--- one whose fields are such as their types have comes back from its bytes whole
-module _ (g : Segment) (t : TypedSegment g) where
-  pub segment-each : Each (segmentWords g) segmentFields
-  segment-each =
-      word-field (half-field (half-field (word-field (word-field (half-field (word-field (word-field none
-      (t .count)) (t .place)) (t .pages)) (t .limit)) (t .offset)) (t .format)) (t .size)) (t .index)
-
-  segment-back : (i : ℕ) → i < 8 → wordAt (bytesOf (segmentWords g)) i ≡ getD (segmentWords g) i 0
-  segment-back i h = word-back (segmentWords g) i h (each-at segment-each i h)
-
-  pub segment-whole : segmentAt (bytesOf (segmentWords g)) ≡ g
-  segment-whole =
-      λ j.
-      record {
-        index = segment-back 0 (omega arith) j;
-        size = segment-back 1 (omega arith) j;
-        format = segment-back 2 (omega arith) j;
-        offset = segment-back 3 (omega arith) j;
-        limit = segment-back 4 (omega arith) j;
-        pages = segment-back 5 (omega arith) j;
-        place = segment-back 6 (omega arith) j;
-        count = segment-back 7 (omega arith) j;
-      }
-
--- bytes that hold one hold such a one
-pub segment-typed : (s : List ℕ) → fits s segmentFields ≡ true → TypedSegment (segmentAt s)
-segment-typed s h =
-    record {
-      index = omega (arith, field 0 (omega arith));
-      size = omega (arith, field 1 (omega arith));
-      format = omega (arith, field 2 (omega arith));
-      offset = omega (arith, field 3 (omega arith));
-      limit = omega (arith, field 4 (omega arith));
-      pages = omega (arith, field 5 (omega arith));
-      place = omega (arith, field 6 (omega arith));
-      count = omega (arith, field 7 (omega arith));
-    }
-  where
-    field : (i : ℕ) → i < 8 → wordAt s i ≤ getD segmentFields i 0
-    field = at-most segmentFields s h
 
 -- ---- a caller who goes on behind a refused record hears the same from two that say the same
 
