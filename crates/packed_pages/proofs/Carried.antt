@@ -2,15 +2,16 @@
 -- Assumes nothing.
 use Prim.Native.Nat.{ℕ, _*_, _^_, _≤_, _<_}
 use mathlib.Core.Path.{_≡_, refl, ap, _∙_, subst}
-use mathlib.Core.Bool.{Bool, true}
+use mathlib.Core.Bool.{Bool, true, cond}
 use mathlib.Core.List.{List, [], _∷_}
 use native.Mathlib.Omega.{arith}
+use lib.Dec.{eqb}
 use lib.ListN.{length, drop, getD, List·getD-append}
 use Rattle.chains.proofs.Typed.{TypedSegment}
 use Rattle.chains.specs.declared.Segment.{Segment}
 use Rattle.packed_pages.proofs.Fixups.{five}
 use Rattle.packed_pages.proofs.Records.{record-begun}
-use Rattle.packed_pages.specs.Packed.{stateFields, stateWords, stateAt, states, beginAt, itemWords, items}
+use Rattle.packed_pages.specs.Packed.{stateFields, stateWords, stateAt, states, beginAt, fixingWords, itemWords, itemAt, items}
 use Rattle.packed_segments.proofs.Segments.{segment-at, segment-each, segment-whole, segment-typed}
 use Rattle.packed_segments.specs.Packed.{segmentFields, segmentWords, segmentAt}
 use Rattle.packing.proofs.Back.{Each, none, word-field, flag-field, each-at, word-back, fits-back, flag-back}
@@ -24,11 +25,12 @@ use Rattle.packing.specs.Fields.{fits, isSet, bit}
 use Rattle.packing.specs.Words.{wordAt, wordsFrom, bytesOf}
 use Rattle.pages.proofs.Joined.{joined}
 use Rattle.pages.proofs.Kept.{out-of-range}
-use Rattle.pages.proofs.Typed.{Typed, typed-begin, typed-call}
+use Rattle.pages.proofs.Typed.{Typed, TypedFixing, typed-begin, typed-call, typed-item}
 use Rattle.pages.specs.Call.{begin, outOfRange, call}
+use Rattle.pages.specs.ChainedPointers.{Fixing, rebase, bind, Fixed, fixed}
 use Rattle.pages.specs.Listing.{listing}
 use Rattle.pages.specs.declared.PageWalk.{PageWalk}
-use Rattle.runs.specs.Runs.{begun, Walks}
+use Rattle.runs.specs.Runs.{begun, item, Walks}
 
 -- ---- a state whose fields are such as their types have comes back from its bytes whole
 
@@ -111,6 +113,25 @@ faithful =
 long : Long items
 long x = length-bytes (itemWords x) ∙ ap (λ (n : ℕ). 8 * n) (five x)
 
+-- ---- an item whose fields are such as their types have is the one that its record tells
+
+tells : (vs : List ℕ) {largest : List ℕ} → Each vs largest → length vs ≡ 5 →
+    itemAt (bytesOf vs) ≡ fixed (getD vs 0 0) (cond (eqb (getD vs 1 0) 0) (rebase (getD vs 2 0)) (bind (getD vs 3 0) (getD vs 4 0)))
+tells vs e l =
+    λ j.
+    fixed (is 0 (omega arith) j)
+    (cond (eqb (is 1 (omega arith) j) 0) (rebase (is 2 (omega arith) j)) (bind (is 3 (omega arith) j) (is 4 (omega arith) j)))
+  where
+    is : (i : ℕ) → i < 5 → wordAt (bytesOf vs) i ≡ getD vs i 0
+    is i h = let k : i < length vs = omega (arith, l) in word-back vs i k (each-at e i k)
+
+module _ (place : ℕ) (h : place < 2 ^ 64) where
+  tells-fixing : (f : Fixing) → TypedFixing f → itemAt (bytesOf (place ∷ fixingWords f)) ≡ fixed place f
+  tells-fixing (rebase target) t =
+      tells _ (word-field (word-field (word-field (word-field (word-field none {v = 0} (omega arith)) {v = 0} (omega arith)) t) {v = 0} (omega arith)) h) refl
+  tells-fixing (bind ordinal addend) t =
+      tells _ (word-field (word-field (word-field (word-field (word-field none (t .1)) (t .0)) {v = 0} (omega arith)) {v = 1} (omega arith)) h) refl
+
 -- ---- a start by the bytes of a segment is a start by the segment
 
 pub begins-by : (s : List ℕ) (g : Segment) → TypedSegment g → (base : ℕ) → beginAt s (bytesOf (segmentWords g)) base ≡ begin s g base
@@ -122,8 +143,8 @@ begins-by s g t base = rw (fits-back (segment-each g t none)) (ap (λ (g : Segme
 module _ (s contents : List ℕ) where
   -- from a start on they say what the chains of the segment list
   pub calls-list : length contents < 2 ^ 64 → (segment : List ℕ) (base : ℕ) → base < 2 ^ 64 → {w : PageWalk} → beginAt s segment base ≡ begun w →
-      (state item : List ℕ) → length state ≡ 128 → length item ≡ 40 →
-      Walks (through states items (call s contents)) (lent (started states state (beginAt s segment base) .1) item)
+      (state told : List ℕ) → length state ≡ 128 → length told ≡ 40 →
+      Walks (through states items (call s contents)) (lent (started states state (beginAt s segment base) .1) told)
       (recorded items (listing s contents (segmentAt segment) base))
   calls-list short segment base h {w} e =
       let b = record-begun s segment base e in
@@ -131,9 +152,13 @@ module _ (s contents : List ℕ) where
       started-say states items Typed faithful long (call s contents) (typed-call s contents) e
       (typed-begin s (segmentAt segment) base t h (b .1)) (joined s contents short (segmentAt segment) base t w (b .1))
 
+  -- the record of every item that is yielded tells which it is
+  pub items-back : (w : PageWalk) → Typed w → {x : Fixed} {v : PageWalk} → call s contents w ≡ item x v → itemAt (items .bytes x) ≡ x
+  items-back w t {x} e = let u = typed-item s contents w t e in tells-fixing (x .place) (u .place) (x .fixing) (u .fixing)
+
   -- a state out of range comes back as it came
-  pub out-of-range-back : (state item : List ℕ) → Bytes state → fits state stateFields ≡ true → length item ≡ 40 → outOfRange (stateAt state) (length s) ≡ true →
-      stepped states items state item (call s contents) ≡ (19, state, items .blank)
-  out-of-range-back state item b h l r =
-      refused-back states items Typed faithful long (call s contents) (typed-call s contents) state b h item l
+  pub out-of-range-back : (state told : List ℕ) → Bytes state → fits state stateFields ≡ true → length told ≡ 40 → outOfRange (stateAt state) (length s) ≡ true →
+      stepped states items state told (call s contents) ≡ (19, state, items .blank)
+  out-of-range-back state told b h l r =
+      refused-back states items Typed faithful long (call s contents) (typed-call s contents) state b h told l
       (out-of-range s contents (stateAt state) r)

@@ -1,26 +1,30 @@
--- States whose fields are such as their types have: a start gives one, and every call on one hands one back. Refusals have a number of the
--- table. Assumes nothing.
-use Prim.Native.Nat.{ℕ, _+_, _-_, _^_, _≤_, _<_}
+-- States and items whose fields are such as their types have: a start gives such a state, and every call on one hands such a one back, and
+-- such an item. Refusals have a number of the table. Assumes nothing.
+use Prim.Native.Nat.{ℕ, _+_, _-_, _*_, _^_, _≤_, _<_}
 use mathlib.Core.Path.{_≡_, refl, subst}
 use mathlib.Core.Bool.{Bool, true, false}
 use mathlib.Core.List.{List}
 use native.Mathlib.Nat.{min-le-right}
 use native.Mathlib.Omega.{arith}
+use lib.Bits.{or-lt}
 use lib.Dec.{eqb}
 use lib.ListN.{length}
 use Rattle.chains.proofs.Typed.{TypedSegment}
+use Rattle.chains.specs.FixupChains.{bits}
 use Rattle.chains.specs.declared.Segment.{Segment}
 use Rattle.numbers.proofs.Picks.{by-pick}
 use Rattle.pages.proofs.Answers.{Keeps, by-call}
 use Rattle.pages.proofs.Calls.{call-out, call-ended}
 use Rattle.pages.proofs.Moves.{in-range, origin-within}
-use Rattle.pages.specs.Call.{startsOut, begin, marked, moved, onPage, toChain, toPointer, onward, farthest, outOfRange, call}
-use Rattle.pages.specs.ChainedPointers.{isFormat, nextOf, Fixed}
+use Rattle.pages.specs.Call.{startsOut, begin, marked, moved, onPage, toChain, toPointer, onward, refusing, farthest, outOfRange, call}
+use Rattle.pages.specs.ChainedPointers.{isFormat, isNarrow, baseOf, minus, Fixing, rebase, bind, wideFixing, narrowFixing, fixingOf, nextOf, Fixed, fixed}
 use Rattle.pages.specs.declared.PageWalk.{PageWalk}
 use Rattle.refusal.proofs.Numbered.{IsNumber, is-number}
+use Rattle.refusal.specs.Numbers.{numberOf}
+use Rattle.refusal.specs.declared.Refusal.{Refusal}
 use Rattle.refusal.specs.declared.Refusal.the-variants.{StateOutOfRange}
-use Rattle.runs.proofs.Walks.{IfBegun, Hands}
-use Rattle.runs.specs.Runs.{begun, Answer}
+use Rattle.runs.proofs.Walks.{IfBegun, IfItem, Hands}
+use Rattle.runs.specs.Runs.{begun, Answer, item, end, refused}
 
 pub record Typed (w : PageWalk) : Type 0 where
   pub segment : TypedSegment (w .segment)
@@ -86,18 +90,54 @@ typed-marked : (w : PageWalk) → Typed w → Typed (marked w)
 typed-marked w t =
     record { segment = t .segment; base = t .base; page = t .page; chain = t .chain; origin = t .origin; offset = t .offset }
 
+-- ---- an item
+
+abbrev pub TypedFixing : Fixing → Type 0
+TypedFixing (rebase target) = target < 2 ^ 64
+TypedFixing (bind ordinal addend) = (ordinal < 2 ^ 64) × (addend < 2 ^ 64)
+
+typed-narrow : (base n : ℕ) → TypedFixing (narrowFixing base n)
+unfolding narrowFixing
+typed-narrow base n = by-pick TypedFixing (eqb (bits 31 1 n) 1) _ _ (omega arith, omega arith) (omega arith)
+
+typed-wide : (base n : ℕ) → TypedFixing (wideFixing base n)
+unfolding wideFixing
+typed-wide base n =
+    by-pick TypedFixing (eqb (bits 63 1 n) 1) _ _ (omega arith, omega arith)
+    (or-lt 64 (minus (bits 0 36 n) base) (bits 36 8 n * 2 ^ 56) (omega arith) (omega arith))
+
+typed-fixing : (format base n : ℕ) → TypedFixing (fixingOf format base n)
+unfolding fixingOf
+typed-fixing format base n =
+    by-pick TypedFixing (isNarrow format) _ _ (typed-narrow (baseOf format base) n) (typed-wide (baseOf format base) n)
+
+pub record TypedFixed (x : Fixed) : Type 0 where
+  pub place : x .place < 2 ^ 64
+  pub fixing : TypedFixing (x .fixing)
+
 -- ---- a call
 
 module _ (s d : List ℕ) (w : PageWalk) (t : Typed w) where
-  abbrev Good : Answer PageWalk Fixed → Type 0
-  Good = Hands Typed IsNumber
-
-  pub typed-call : Good (call s d w)
-  typed-call = by (outOfRange w (length s)) (w .ended) refl refl
+  -- what holds of its answer, by what holds where the states on the way are typed
+  by-typed : (Q : Answer PageWalk Fixed → Type 0) → Q (refused (numberOf StateOutOfRange) w) → ((e : Refusal) → Q (refusing w e)) → ((v : PageWalk) → Typed v → Q (end v)) →
+      ((v : PageWalk) (n : ℕ) → Typed v → Q (item (fixed (v .offset) (fixingOf (v .segment .format) (v .base) n)) (onward (nextOf (v .segment .format) n) v))) → Q (call s d w)
+  by-typed Q out refuses ends gives = by (outOfRange w (length s)) (w .ended) refl refl
     where
-      by : (a b : Bool) → outOfRange w (length s) ≡ a → w .ended ≡ b → Good (call s d w)
-      by true b e f = subst Good (call-out s d w refl e) (t, is-number StateOutOfRange)
-      by false true e f = subst Good (call-ended s d w refl e f) t
+      by : (a b : Bool) → outOfRange w (length s) ≡ a → w .ended ≡ b → Q (call s d w)
+      by true b e f = subst Q (call-out s d w refl e) out
+      by false true e f = subst Q (call-ended s d w refl e f) (ends w t)
       by false false e f =
-          by-call s d w {I = Near} Good keeps-near (λ r. (typed-marked w t, is-number r)) (λ v i. i .typed)
-          (λ v n i. typed-onward (nextOf (v .segment .format) n) v (i .typed)) e f (record { typed = t; near = in-range s w e .near })
+          by-call s d w {I = Near} Q keeps-near refuses (λ v i. ends v (i .typed)) (λ v n i. gives v n (i .typed)) e f
+          (record { typed = t; near = in-range s w e .near })
+
+  pub typed-call : Hands Typed IsNumber (call s d w)
+  typed-call =
+      by-typed (Hands Typed IsNumber) (t, is-number StateOutOfRange) (λ e. (typed-marked w t, is-number e)) (λ v u. u)
+      (λ v n u. typed-onward (nextOf (v .segment .format) n) v u)
+
+  -- every item that is yielded has fields such as their types have
+  pub typed-item : {x : Fixed} {v : PageWalk} → call s d w ≡ item x v → TypedFixed x
+  typed-item e =
+      subst (IfItem TypedFixed) e
+      (by-typed (IfItem TypedFixed) tt (λ e. tt) (λ v u. tt)
+      (λ v n u. record { place = u .offset; fixing = typed-fixing (v .segment .format) (v .base) n }))
