@@ -7,7 +7,7 @@ use native.Mathlib.Omega.{arith}
 use lib.ListN.{length, getD}
 use Rattle.imports.proofs.Joined.{joined}
 use Rattle.imports.proofs.Kept.{out-of-range}
-use Rattle.imports.proofs.Typed.{Typed, typed-begin, typed-call}
+use Rattle.imports.proofs.Typed.{Typed, TypedImport, typed-begin, typed-call, typed-item}
 use Rattle.imports.specs.Call.{begin, outOfRange, call}
 use Rattle.imports.specs.Listing.{listing}
 use Rattle.imports.specs.declared.Import.{Import}
@@ -15,14 +15,16 @@ use Rattle.imports.specs.declared.ImportWalk.{ImportWalk}
 use Rattle.packing.proofs.Back.{Each, none, word-field, flag-field, each-at, word-back, fits-back, flag-back}
 use Rattle.packing.proofs.Calls.{Faithful, Long, started-say, refused-back}
 use Rattle.packing.proofs.Fields.{fits-long, at-most}
+use Rattle.packing.proofs.Signs.{signed-back, unsigned-less, widened, narrow-back}
 use Rattle.packing.proofs.Whole.{Bytes, words-whole, flag-whole}
 use Rattle.packing.proofs.Words.{length-bytes}
 use Rattle.packing.specs.Boundary.{started, stepped}
 use Rattle.packing.specs.Calls.{lent, through, recorded}
-use Rattle.packing.specs.Fields.{fits, isSet, bit}
+use Rattle.packing.specs.Fields.{u64, fits, isSet, bit, signedOf}
+use Rattle.packing.specs.Fields as fields
 use Rattle.packing.specs.Words.{wordAt, wordsFrom, bytesOf}
-use Rattle.packed_imports.specs.Packed.{stateFields, stateWords, stateAt, states, itemWords, items}
-use Rattle.runs.specs.Runs.{begun, Walks}
+use Rattle.packed_imports.specs.Packed.{stateFields, stateWords, stateAt, states, itemWords, itemAt, items}
+use Rattle.runs.specs.Runs.{begun, item, Walks}
 
 -- ---- a state whose fields are such as their types have comes back from its bytes whole
 
@@ -79,17 +81,43 @@ faithful =
 long : Long items
 long x = length-bytes (itemWords x)
 
+-- ---- an item whose fields are such as their types have is the one that its record tells
+
+module _ (x : Import) (t : TypedImport x) where
+  item-each : Each (itemWords x) (u64 ∷ fields.flag ∷ u64 ∷ u64 ∷ u64 ∷ [])
+  item-each =
+      word-field (flag-field (word-field (word-field (word-field none (t .length)) (t .place)) (unsigned-less (x .addend) (t .addend))) (x .weak))
+      (unsigned-less (x .library) (widened (x .library) (t .library)))
+
+  item-back : (i : ℕ) → i < 5 → wordAt (items .bytes x) i ≡ getD (itemWords x) i 0
+  item-back i h = word-back (itemWords x) i h (each-at item-each i h)
+
+  tells : itemAt (items .bytes x) ≡ x
+  tells =
+      λ j.
+      record {
+        library = (ap signedOf (item-back 0 (omega arith)) ∙ narrow-back (x .library) (t .library)) j;
+        weak = (ap isSet (item-back 1 (omega arith)) ∙ flag-back (x .weak)) j;
+        addend = (ap signedOf (item-back 2 (omega arith)) ∙ signed-back (x .addend) (t .addend)) j;
+        place = item-back 3 (omega arith) j;
+        length = item-back 4 (omega arith) j;
+      }
+
 -- ---- calls through the entry points
 
 module _ (s : List ℕ) (short : length s < 2 ^ 64) where
   -- from a start on they say what the bytes list
-  pub calls-list : Bytes s → {w : ImportWalk} → begin s ≡ begun w → (state item : List ℕ) → length state ≡ 40 → length item ≡ 40 →
-      Walks (through states items (call s)) (lent (started states state (begin s) .1) item) (recorded items (listing s))
+  pub calls-list : Bytes s → {w : ImportWalk} → begin s ≡ begun w → (state told : List ℕ) → length state ≡ 40 → length told ≡ 40 →
+      Walks (through states items (call s)) (lent (started states state (begin s) .1) told) (recorded items (listing s))
   calls-list b {w} e =
       started-say states items Typed faithful long (call s) (typed-call s short) e (typed-begin s b e) (joined s w e)
 
+  -- the record of every item that is yielded tells which it is
+  pub items-back : Bytes s → (w : ImportWalk) {x : Import} {v : ImportWalk} → call s w ≡ item x v → itemAt (items .bytes x) ≡ x
+  items-back b w {x} e = tells x (typed-item s b short w e)
+
   -- a state out of range comes back as it came
-  pub out-of-range-back : (state item : List ℕ) → Bytes state → fits state stateFields ≡ true → length item ≡ 40 →
-      outOfRange (stateAt state .place) (stateAt state .symbols) (length s) ≡ true → stepped states items state item (call s) ≡ (19, state, items .blank)
-  out-of-range-back state item b h l r =
-      refused-back states items Typed faithful long (call s) (typed-call s short) state b h item l (out-of-range s (stateAt state) r)
+  pub out-of-range-back : (state told : List ℕ) → Bytes state → fits state stateFields ≡ true → length told ≡ 40 →
+      outOfRange (stateAt state .place) (stateAt state .symbols) (length s) ≡ true → stepped states items state told (call s) ≡ (19, state, items .blank)
+  out-of-range-back state told b h l r =
+      refused-back states items Typed faithful long (call s) (typed-call s short) state b h told l (out-of-range s (stateAt state) r)

@@ -82,5 +82,13 @@ signed-back (negsuc n) f =
     let same : 2 ^ 64 - 1 - v ≡ n = omega (arith, f .sfits) in
     negative v (omega (arith, f .sfits)) (omega arith) ∙ ap negsuc same
 
+pub unsigned-less : (z : ℤ) → SFits w64 z → unsignedOf z < 2 ^ 64
+unsigned-less (pos n) f = omega (arith, f .sfits)
+unsigned-less (negsuc n) f = omega arith
+
+-- those of 32 bits too
+pub widened : (z : ℤ) → SFits w32 z → SFits w64 z
+widened z f = subst (SFits w64) (toZ-ofZ f) (wide-fits z f)
+
 pub narrow-back : (z : ℤ) → SFits w32 z → signedOf (unsignedOf z) ≡ z
-narrow-back z f = signed-back z (subst (SFits w64) (toZ-ofZ f) (wide-fits z f))
+narrow-back z f = signed-back z (widened z f)
