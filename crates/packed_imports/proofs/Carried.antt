@@ -13,7 +13,7 @@ use Rattle.imports.specs.Listing.{listing}
 use Rattle.imports.specs.declared.Import.{Import}
 use Rattle.imports.specs.declared.ImportWalk.{ImportWalk}
 use Rattle.packing.proofs.Back.{Each, none, word-field, flag-field, each-at, word-back, fits-back, flag-back}
-use Rattle.packing.proofs.Calls.{Faithful, Long, started-say, refused-back}
+use Rattle.packing.proofs.Calls.{Faithful, Long, started-say, records-back, refused-back}
 use Rattle.packing.proofs.Fields.{fits-long, at-most}
 use Rattle.packing.proofs.Signs.{signed-back, unsigned-less, widened, narrow-back}
 use Rattle.packing.proofs.Whole.{Bytes, words-whole, flag-whole}
@@ -24,7 +24,7 @@ use Rattle.packing.specs.Fields.{u64, fits, isSet, bit, signedOf}
 use Rattle.packing.specs.Fields as fields
 use Rattle.packing.specs.Words.{wordAt, wordsFrom, bytesOf}
 use Rattle.packed_imports.specs.Packed.{stateFields, stateWords, stateAt, states, itemWords, itemAt, items}
-use Rattle.runs.specs.Runs.{begun, item, Walks}
+use Rattle.runs.specs.Runs.{begun, item, mapped, Walks}
 
 -- ---- a state whose fields are such as their types have comes back from its bytes whole
 
@@ -115,6 +115,11 @@ module _ (s : List ℕ) (short : length s < 2 ^ 64) where
   -- the record of every item that is yielded tells which it is
   pub items-back : Bytes s → (w : ImportWalk) {x : Import} {v : ImportWalk} → call s w ≡ item x v → itemAt (items .bytes x) ≡ x
   items-back b w {x} e = tells x (typed-item s b short w e)
+
+  -- so the records of all tell what the bytes list
+  pub listing-back : Bytes s → {w : ImportWalk} → begin s ≡ begun w → mapped itemAt (recorded items (listing s)) ≡ listing s
+  listing-back b {w} e =
+      records-back states items Typed faithful long (call s) (typed-call s short) itemAt (λ w t x v. items-back b w) (joined s w e) (typed-begin s b e)
 
   -- a state out of range comes back as it came
   pub out-of-range-back : (state told : List ℕ) → Bytes state → fits state stateFields ≡ true → length told ≡ 40 →

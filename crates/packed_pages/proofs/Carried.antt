@@ -7,15 +7,19 @@ use mathlib.Core.List.{List, [], _∷_}
 use native.Mathlib.Omega.{arith}
 use lib.Dec.{eqb}
 use lib.ListN.{length, drop, getD, List·getD-append}
+use Rattle.chains.proofs.Typed as chains
 use Rattle.chains.proofs.Typed.{TypedSegment}
+use Rattle.chains.specs.Call as chains-call
 use Rattle.chains.specs.declared.Segment.{Segment}
+use Rattle.chains.specs.declared.SegmentWalk.{SegmentWalk}
 use Rattle.packed_pages.proofs.Fixups.{five}
 use Rattle.packed_pages.proofs.Records.{record-begun}
 use Rattle.packed_pages.specs.Packed.{stateFields, stateWords, stateAt, states, beginAt, fixingWords, itemWords, itemAt, items}
 use Rattle.packed_segments.proofs.Segments.{segment-at, segment-each, segment-whole, segment-typed}
+use Rattle.packed_segments.specs.Packed as segments
 use Rattle.packed_segments.specs.Packed.{segmentFields, segmentWords, segmentAt}
 use Rattle.packing.proofs.Back.{Each, none, word-field, flag-field, each-at, word-back, fits-back, flag-back}
-use Rattle.packing.proofs.Calls.{Faithful, Long, started-say, refused-back}
+use Rattle.packing.proofs.Calls.{Faithful, Long, started-say, records-back, refused-back}
 use Rattle.packing.proofs.Fields.{fits-long, at-most}
 use Rattle.packing.proofs.Whole.{Bytes, words-whole, flag-whole}
 use Rattle.packing.proofs.Words.{length-bytes}
@@ -30,7 +34,7 @@ use Rattle.pages.specs.Call.{begin, outOfRange, call}
 use Rattle.pages.specs.ChainedPointers.{Fixing, rebase, bind, Fixed, fixed}
 use Rattle.pages.specs.Listing.{listing}
 use Rattle.pages.specs.declared.PageWalk.{PageWalk}
-use Rattle.runs.specs.Runs.{begun, item, Walks}
+use Rattle.runs.specs.Runs.{begun, item, mapped, Walks}
 
 -- ---- a state whose fields are such as their types have comes back from its bytes whole
 
@@ -134,27 +138,45 @@ module _ (place : ℕ) (h : place < 2 ^ 64) where
 
 -- ---- a start by the bytes of a segment is a start by the segment
 
-pub begins-by : (s : List ℕ) (g : Segment) → TypedSegment g → (base : ℕ) → beginAt s (bytesOf (segmentWords g)) base ≡ begin s g base
+begins-by : (s : List ℕ) (g : Segment) → TypedSegment g → (base : ℕ) → beginAt s (bytesOf (segmentWords g)) base ≡ begin s g base
 unfolding beginAt
 begins-by s g t base = rw (fits-back (segment-each g t none)) (ap (λ (g : Segment). begin s g base) (segment-whole g t))
+
+-- so the record that a step of the walk over segments told begins a walk over the pages of that segment
+pub begins-told : (s : List ℕ) → Bytes s → length s < 2 ^ 64 → (w : SegmentWalk) → chains.Typed w → {g : Segment} {v : SegmentWalk} → chains-call.call s w ≡ item g v →
+    (base : ℕ) → beginAt s (segments.items .bytes g) base ≡ begin s g base
+begins-told s b short w t {g} e = begins-by s g (chains.typed-segment s b short w t e)
 
 -- ---- calls through the entry points
 
 module _ (s contents : List ℕ) where
+  -- a start by a record gives a state whose fields are such as their types have, and calls from there on say what is listed
+  begins : length contents < 2 ^ 64 → (segment : List ℕ) (base : ℕ) → base < 2 ^ 64 → {w : PageWalk} → beginAt s segment base ≡ begun w →
+      Typed w × Walks (call s contents) w (listing s contents (segmentAt segment) base)
+  begins short segment base h {w} e =
+      let b = record-begun s segment base e in
+      let t = segment-typed segment (at-most segmentFields segment (b .0)) in
+      (typed-begin s (segmentAt segment) base t h (b .1), joined s contents short (segmentAt segment) base t w (b .1))
+
   -- from a start on they say what the chains of the segment list
   pub calls-list : length contents < 2 ^ 64 → (segment : List ℕ) (base : ℕ) → base < 2 ^ 64 → {w : PageWalk} → beginAt s segment base ≡ begun w →
       (state told : List ℕ) → length state ≡ 128 → length told ≡ 40 →
       Walks (through states items (call s contents)) (lent (started states state (beginAt s segment base) .1) told)
       (recorded items (listing s contents (segmentAt segment) base))
-  calls-list short segment base h {w} e =
-      let b = record-begun s segment base e in
-      let t = segment-typed segment (at-most segmentFields segment (b .0)) in
-      started-say states items Typed faithful long (call s contents) (typed-call s contents) e
-      (typed-begin s (segmentAt segment) base t h (b .1)) (joined s contents short (segmentAt segment) base t w (b .1))
+  calls-list short segment base h e =
+      let b = begins short segment base h e in
+      started-say states items Typed faithful long (call s contents) (typed-call s contents) e (b .0) (b .1)
 
   -- the record of every item that is yielded tells which it is
   pub items-back : (w : PageWalk) → Typed w → {x : Fixed} {v : PageWalk} → call s contents w ≡ item x v → itemAt (items .bytes x) ≡ x
   items-back w t {x} e = let u = typed-item s contents w t e in tells-fixing (x .place) (u .place) (x .fixing) (u .fixing)
+
+  -- so the records of all tell what the chains list
+  pub listing-back : length contents < 2 ^ 64 → (segment : List ℕ) (base : ℕ) → base < 2 ^ 64 → {w : PageWalk} → beginAt s segment base ≡ begun w →
+      mapped itemAt (recorded items (listing s contents (segmentAt segment) base)) ≡ listing s contents (segmentAt segment) base
+  listing-back short segment base h e =
+      let b = begins short segment base h e in
+      records-back states items Typed faithful long (call s contents) (typed-call s contents) itemAt (λ w t x v. items-back w t) (b .1) (b .0)
 
   -- a state out of range comes back as it came
   pub out-of-range-back : (state told : List ℕ) → Bytes state → fits state stateFields ≡ true → length told ≡ 40 → outOfRange (stateAt state) (length s) ≡ true →

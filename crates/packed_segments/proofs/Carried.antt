@@ -11,9 +11,10 @@ use Rattle.chains.proofs.Joined.{joined}
 use Rattle.chains.proofs.Typed.{Typed, typed-begin, typed-call, typed-segment}
 use Rattle.chains.specs.Call.{begin, call}
 use Rattle.chains.specs.Heard.{heard, hear}
-use Rattle.chains.specs.Listing.{Entry, refusal, listing}
+use Rattle.chains.specs.Listing.{Entry, segment, refusal, listing}
 use Rattle.chains.specs.declared.Segment.{Segment}
 use Rattle.chains.specs.declared.SegmentWalk.{SegmentWalk}
+use Rattle.numbers.proofs.Picks.{by-pick}
 use Rattle.packing.proofs.Back.{Each, none, word-field, each-at, word-back, fits-back}
 use Rattle.packing.proofs.Calls.{Faithful, Long, Lends, wrote, calls-alike, refused-back}
 use Rattle.packing.proofs.Fields.{fits-long, at-most}
@@ -23,10 +24,12 @@ use Rattle.packing.specs.Boundary.{started, stepped}
 use Rattle.packing.specs.Calls.{Lent, lent}
 use Rattle.packing.specs.Fields.{fits}
 use Rattle.packing.specs.Words.{wordAt, wordsFrom, bytesOf}
-use Rattle.packed_segments.specs.Calls.{hearThrough, entryRecord}
+use Rattle.packed_segments.specs.Calls.{hearThrough, entryRecord, entryAt}
 use Rattle.packed_segments.specs.Packed.{stateFields, stateWords, stateAt, states, segmentWords, segmentAt, items}
 use Rattle.packed_segments.proofs.Segments.{segment-whole}
+use Rattle.refusal.proofs.Numbered.{IsNumber}
 use Rattle.runs.proofs.Alike.{Alike, walks-alike}
+use Rattle.runs.proofs.Walks.{Stays, IfItem, Hands, if-item, told-back}
 use Rattle.runs.specs.Runs.{begun, Answer, item, end, refused, mapped, Walks}
 
 -- ---- a state whose fields are such as their types have comes back from its bytes whole
@@ -86,6 +89,17 @@ heard-alike (refused n w) b m =
     by true = record { state = m .state; is = refl; meets = m .meets }
     by false = record { state = m .state; is = refl; meets = m .meets }
 
+-- what holds of what is answered holds of what is heard
+heard-stays : (a : Answer SegmentWalk Segment) → Hands Typed IsNumber a → Stays Typed (heard a)
+heard-stays (item x v) h = h
+heard-stays (end v) h = tt
+heard-stays (refused n v) h = by-pick (Stays Typed) (eqb n 9) (item (refusal n) v) (refused n v) (h .0) tt
+
+heard-back : (a : Answer SegmentWalk Segment) → IfItem (λ g. segmentAt (items .bytes g) ≡ g) a → IfItem (λ x. entryAt (entryRecord x) ≡ x) (heard a)
+heard-back (item x v) h = ap segment h
+heard-back (end v) h = tt
+heard-back (refused n v) h = by-pick (IfItem (λ x. entryAt (entryRecord x) ≡ x)) (eqb n 9) (item (refusal n) v) (refused n v) refl tt
+
 -- ---- calls through the entry points
 
 module _ (s : List ℕ) where
@@ -106,6 +120,13 @@ module _ (s : List ℕ) where
   pub items-back : Bytes s → length s < 2 ^ 64 → (w : SegmentWalk) → Typed w → {g : Segment} {v : SegmentWalk} → call s w ≡ item g v →
       segmentAt (items .bytes g) ≡ g
   items-back b short w t {g} e = segment-whole g (typed-segment s b short w t e)
+
+  -- so the records of all tell what the starts list
+  pub listing-back : Bytes s → length s < 2 ^ 64 → {w : SegmentWalk} → begin s ≡ begun w → mapped entryAt (mapped entryRecord (listing s)) ≡ listing s
+  listing-back b short {w} e =
+      told-back (hear s) entryRecord entryAt Typed (λ w t. heard-stays (call s w) (typed-call s w t))
+      (λ w t. heard-back (call s w) (if-item (λ g. segmentAt (items .bytes g) ≡ g) (call s w) (λ g v. items-back b short w t)))
+      (joined s w e) (typed-begin s b e)
 
   -- a state out of range comes back as it came
   pub out-of-range-back : (state told : List ℕ) → Bytes state → fits state stateFields ≡ true → length told ≡ 64 →

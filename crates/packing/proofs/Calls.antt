@@ -14,8 +14,8 @@ use Rattle.packing.proofs.Boundary.{carried, by-state}
 use Rattle.packing.proofs.Whole.{Bytes}
 use Rattle.refusal.proofs.Numbered.{IsNumber}
 use Rattle.runs.proofs.Alike.{Alike, walks-alike}
-use Rattle.runs.proofs.Walks.{Hands}
-use Rattle.runs.specs.Runs.{Begin, begun, Answer, item, end, refused, Run, Walks}
+use Rattle.runs.proofs.Walks.{Hands, if-item, hands-stays, told-back}
+use Rattle.runs.specs.Runs.{Begin, begun, Answer, item, end, refused, Run, mapped, Walks}
 
 -- ---- states in bytes, both ways: of those whose fields are such as their types have (`Typed`), and of bytes that hold one
 
@@ -82,6 +82,13 @@ module _ {W X : Type 0} (S : States W) (I : Items X) (Typed : W → Type 0) (fai
       Walks (through S I call) (lent (started S state b .1) told) (recorded I r)
   started-say e t {r} p state told l m =
       subst (λ (q : ℕ × List ℕ). Walks (through S I call) (lent (q .1) told) (recorded I r)) (sym (wrote S e state l)) (calls-say p t told m)
+
+  -- where the record of every item tells which it is, the records of all tell what the calls say
+  pub records-back : (itemAt : List ℕ → X) → ((w : W) → Typed w → (x : X) (v : W) → call w ≡ item x v → itemAt (I .bytes x) ≡ x) →
+      {w : W} {r : Run X} → Walks call w r → Typed w → mapped itemAt (recorded I r) ≡ r
+  records-back itemAt same =
+      told-back call (I .bytes) itemAt Typed (λ w t. hands-stays Typed IsNumber (call w) (hands w t))
+      (λ w t. if-item (λ x. itemAt (I .bytes x) ≡ x) (call w) (same w t))
 
   -- a state that comes back as it was given comes back as the bytes that were lent
   module _ (state : List ℕ) (bytes : Bytes state) (h : S .holds state ≡ true) (told : List ℕ) (l : length told ≡ I .long) where
