@@ -11,7 +11,7 @@ use Rattle.chains.proofs.Joined.{joined}
 use Rattle.chains.proofs.Typed.{Typed, typed-begin, typed-call, typed-segment}
 use Rattle.chains.specs.Call.{begin, call}
 use Rattle.chains.specs.Heard.{heard, hear}
-use Rattle.chains.specs.Listing.{Entry, segment, refusal, listing}
+use Rattle.chains.specs.Listing.{segment, refusal, listing}
 use Rattle.chains.specs.declared.Segment.{Segment}
 use Rattle.chains.specs.declared.SegmentWalk.{SegmentWalk}
 use Rattle.numbers.proofs.Picks.{by-pick}
@@ -116,7 +116,7 @@ module _ (s : List ℕ) where
       walks-alike Holds Holds entryRecord (hear s) (hearThrough s) hears-alike (joined s w e)
       (record { typed = typed-begin s b e; state = ap (λ (p : ℕ × List ℕ). p .1) (wrote states e state l); told = m })
 
-  -- the record of every segment that is yielded says which it is
+  -- the record of every segment that is yielded tells which it is
   pub items-back : Bytes s → length s < 2 ^ 64 → (w : SegmentWalk) → Typed w → {g : Segment} {v : SegmentWalk} → call s w ≡ item g v →
       segmentAt (items .bytes g) ≡ g
   items-back b short w t {g} e = segment-whole g (typed-segment s b short w t e)

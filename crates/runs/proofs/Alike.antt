@@ -1,9 +1,8 @@
 -- Two walks that say the same, call by call: what calls of the one say, calls of the other say. Assumes nothing.
-use Prim.Native.Nat.{ℕ}
 use mathlib.Core.Path.{_≡_, subst}
 use Rattle.runs.specs.Runs.{Answer, item, end, refused, Run, mapped, Walks, at-end, at-refusal, at-item}
 
--- an answer of this kind, with a state that the one of the other walk is related to
+-- an answer of this kind, and what holds of its state
 pub record Meets {U Y : Type 0} (P : U → Type 0) (kind : U → Answer U Y) (b : Answer U Y) : Type 0 where
   pub state : U
   pub is : b ≡ kind state
