@@ -1,6 +1,6 @@
 -- What follows a header, by what a call answered: for `search`. Assumes nothing.
 use Prim.Native.Nat.{ℕ}
-use mathlib.Core.Path.{_≡_, ap, sym, _∙_}
+use mathlib.Core.Path.{_≡_, refl, ap, sym, _∙_}
 use Rattle.chains.specs.FixupChains.{HeaderAt, header, noHeader, thenHeader}
 use Rattle.chains.specs.Told.{headerTold}
 use Rattle.chains.specs.declared.header.Header.{Header}
@@ -19,6 +19,13 @@ module _ {A : Type 0} (x : HeaderAt) (refused : ℕ → A) (go : Header → A) {
   header-refused {d} f q = rw (sym e ∙ ap headerTold f) q
 
 pub ruleset headers = (header-read, header-refused)
+
+-- what holds of what follows either
+pub by-header : {A : Type 0} (x : HeaderAt) (refused : ℕ → A) (go : Header → A) (P : A → Type 0) → ((n : ℕ) → P (refused n)) → ((h : Header) → x ≡ header h → P (go h)) →
+    P (thenHeader x refused go)
+unfolding thenHeader
+by-header (header h) refused go P bad good = good h refl
+by-header (noHeader n) refused go P bad good = bad n
 
 -- what holds of two definitions that go by one header
 module _ {A B : Type 0} (R : A → B → Type 0) where

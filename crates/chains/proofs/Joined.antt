@@ -12,6 +12,7 @@ use Rattle.chains.specs.Call.{begin, atIndex, recorded, seek, call}
 use Rattle.chains.specs.FixupChains.{headerAt, offsetAt, thenStarts, recordAt}
 use Rattle.chains.specs.Heard.{heard, hear}
 use Rattle.chains.specs.Listing.{Entry, entry, segments, listing}
+use Rattle.chains.specs.declared.Segment.{Segment}
 use Rattle.chains.specs.declared.SegmentWalk.{SegmentWalk}
 use Rattle.chains.specs.declared.record.Record.{Record}
 use Rattle.chains.specs.declared.record.Record.the-variants.{Found, Fault}
@@ -20,14 +21,14 @@ use Rattle.numbers.proofs.Rows.{field-ends}
 use Rattle.numbers.proofs.Then.{both-numbers}
 use Rattle.numbers.specs.LittleEndian.{fieldAt}
 use Rattle.runs.proofs.Walks.{shown, Stays, walks-ahead, walks-one}
-use Rattle.runs.specs.Runs.{Begin, begun, notBegun, Run, fails, gives, Walks}
+use Rattle.runs.specs.Runs.{Begin, begun, notBegun, Answer, Run, fails, gives, Walks}
 
 module _ (s : List ℕ) where
   abbrev pub Inside : SegmentWalk → Type 0
   Inside w = ltb (length s) (w .place + 4 + 4 * w .count) ≡ false
 
   -- what is ahead of a state
-  abbrev pub ahead : SegmentWalk → Run Entry
+  abbrev pub ahead : SegmentWalk → Run (Entry Segment)
   ahead w = segments s (w .place) (w .count - w .index) (w .index)
 
   module _ (w : SegmentWalk) where
@@ -56,7 +57,7 @@ module _ (s : List ℕ) where
     unfolding seek
     stays-seek zero i h = tt
     stays-seek (suc n) i h =
-        by-pick (λ a. Stays Inside (heard a)) (eqb (offsetAt s (w .place) i) 0) _ _ (stays-seek n (i + 1) h)
+        by-pick (λ (a : Answer SegmentWalk Segment). Stays Inside (heard a)) (eqb (offsetAt s (w .place) i) 0) _ _ (stays-seek n (i + 1) h)
         (stays-record (i + 1) h (recordAt s i (w .place + offsetAt s (w .place) i)))
 
     inside-call : Inside w → call s w ≡ seek s w (w .count - w .index) (w .index)
@@ -64,18 +65,18 @@ module _ (s : List ℕ) where
     inside-call h = rw h
 
     says : Inside w → ahead w ≡ shown ahead (hear s w)
-    says h = says-seek (w .count - w .index) (w .index) refl ∙ ap (λ a. shown ahead (heard a)) (sym (inside-call h))
+    says h = says-seek (w .count - w .index) (w .index) refl ∙ ap (λ (a : Answer SegmentWalk Segment). shown ahead (heard a)) (sym (inside-call h))
 
     stays : Inside w → Stays Inside (hear s w)
-    stays h = subst (λ a. Stays Inside (heard a)) (sym (inside-call h)) (stays-seek (w .count - w .index) (w .index) h)
+    stays h = subst (λ (a : Answer SegmentWalk Segment). Stays Inside (heard a)) (sym (inside-call h)) (stays-seek (w .count - w .index) (w .index) h)
 
   -- ---- a start
 
-  record Begins (w : SegmentWalk) (r : Run Entry) : Type 0 where
+  record Begins (w : SegmentWalk) (r : Run (Entry Segment)) : Type 0 where
     inside : Inside w
     all : r ≡ ahead w
 
-  abbrev Starts : Begin SegmentWalk → Run Entry → Type 0
+  abbrev Starts : Begin SegmentWalk → Run (Entry Segment) → Type 0
   Starts (begun w) r = Begins w r
   Starts (notBegun n) r = r ≡ fails n
 
@@ -102,7 +103,7 @@ module _ (s : List ℕ) where
       let b = subst (λ (x : Begin SegmentWalk). Starts x (listing s)) e starts in
       subst (Walks (hear s) w) (sym (b .all)) (walks w (b .inside))
 
-  pub joined-only : (w : SegmentWalk) {r : Run Entry} → begin s ≡ begun w → Walks (hear s) w r → r ≡ listing s
+  pub joined-only : (w : SegmentWalk) {r : Run (Entry Segment)} → begin s ≡ begun w → Walks (hear s) w r → r ≡ listing s
   joined-only w e h = walks-one (hear s) h (joined w e)
 
   pub not-begun : {n : ℕ} → begin s ≡ notBegun n → listing s ≡ fails n

@@ -5,3 +5,4 @@ pub mod Seeks
 pub mod Inside
 pub mod Joined
 pub mod Unique
+pub mod Typed

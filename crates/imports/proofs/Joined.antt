@@ -16,7 +16,7 @@ use Rattle.runs.proofs.Walks.{shown, Stays, walks-ahead, walks-one}
 use Rattle.runs.specs.Runs.{Begin, begun, notBegun, end, Run, fails, Walks}
 use Rattle.imports.proofs.Calls.{InRange}
 use Rattle.imports.proofs.Imports.{both-imports}
-use Rattle.imports.proofs.Inside.{IfImport, import-inside}
+use Rattle.imports.proofs.Inside.{IfImport, Inside, import-inside}
 use Rattle.imports.proofs.Kept.{in-range-call}
 
 module _ (s : List ℕ) where
@@ -49,7 +49,7 @@ module _ (s : List ℕ) where
     says : Going w → ahead w ≡ shown ahead (call s w)
     says g = says-next (w .left) ∙ ap (shown ahead) (sym (going-call g))
 
-    stays-read : Going w → (n : ℕ) (x : ImportRead) → IfImport s x → Stays Going (imported w n x)
+    stays-read : Going w → (n : ℕ) (x : ImportRead) → IfImport (Inside s) x → Stays Going (imported w n x)
     unfolding imported
     stays-read g n (Found x at) i =
         record { range = record { place-in = i .ends; symbols-in = g .range .symbols-in }; live = g .live }

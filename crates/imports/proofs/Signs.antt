@@ -1,6 +1,6 @@
 -- Numbers of which those above a bound are negative, as a machine's signed numbers: for `search`. Assumes nothing.
 use Prim.Native.Nat.{ℕ, _+_, _-_, _^_, _≤_, _<_}
-use mathlib.Core.Path.{_≡_, sym, _∙_}
+use mathlib.Core.Path.{_≡_, sym, _∙_, subst}
 use mathlib.Core.Bool.{cond}
 use native.Mathlib.Decide.{decLt}
 use native.Mathlib.Omega.{arith}
@@ -29,12 +29,19 @@ module _ (n bound most : ℕ) where
   pub plus-below : n ≤ bound → bound < 2 ^ 63 → toZ w64 n ≡ cond (ltb bound n) (pos n -ℤ pos (most + 1)) (pos n)
   plus-below h j = plus-is n (omega arith) ∙ sym (below h)
 
+  by-sign : (P : ℤ → Type 0) → n ≤ most → (bound < n → P (negsuc (most - n))) → (n ≤ bound → P (pos n)) → P (cond (ltb bound n) (pos n -ℤ pos (most + 1)) (pos n))
+  by-sign P i p q =
+      elim (decLt bound n) [
+        | yes h ↦ subst P (sym (above h i)) (p h)
+        | no h ↦ let k : n ≤ bound = omega arith in subst P (sym (below k)) (q k)
+      ]
+
   -- those of an i32
   pub library-fits : {r : ℤ} → r ≡ cond (ltb bound n) (pos n -ℤ pos (most + 1)) (pos n) → n ≤ most → most < 2 ^ 31 → SFits w32 r
-  library-fits e i j =
-      elim (decLt bound n) [
-        | yes h ↦ rw (e ∙ above h i) (record { sfits = omega arith })
-        | no h ↦ rw (e ∙ below (omega arith)) (record { sfits = omega arith })
-      ]
+  library-fits e i j = rw e (by-sign (SFits w32) i (λ h. record { sfits = omega arith }) (λ h. record { sfits = omega arith }))
+
+  -- those of an i64
+  pub addend-fits : n ≤ most → bound < 2 ^ 63 → most - bound ≤ 2 ^ 63 → SFits w64 (cond (ltb bound n) (pos n -ℤ pos (most + 1)) (pos n))
+  addend-fits i j k = by-sign (SFits w64) i (λ h. record { sfits = omega arith }) (λ h. record { sfits = omega arith })
 
 pub ruleset signs = (minus-fits-above, minus-above, plus-below)

@@ -16,9 +16,9 @@ use Rattle.listing.proofs.Typed.{Typed, typed-begin}
 use Rattle.listing.specs.Call.{State, state, begin, call}
 use Rattle.listing.specs.Listing as listing
 use Rattle.packing.proofs.Back.{Each, none, word-field, byte-field, flag-field, each-at, word-back, fits-back, flag-back}
-use Rattle.packing.proofs.Calls.{Faithful, Long, started-say, refused-back}
+use Rattle.packing.proofs.Calls.{Faithful, Long, started-say, records-back, refused-back}
 use Rattle.packing.proofs.Fields.{fits-long, at-most}
-use Rattle.packing.proofs.Signs.{signed-fits, signed-back, word-below, widened, narrow-back}
+use Rattle.packing.proofs.Signs.{signed-fits, signed-back, unsigned-less, widened, narrow-back}
 use Rattle.packing.proofs.Whole.{Bytes, words-whole, flag-whole, signed-whole}
 use Rattle.packing.proofs.Words.{length-bytes}
 use Rattle.packing.specs.Boundary.{started, stepped}
@@ -28,7 +28,7 @@ use Rattle.packing.specs.Words.{wordAt, wordsFrom, bytesOf}
 use Rattle.packed_bind.proofs.Signs.{i32-back, i32-fits}
 use Rattle.packed_bind.proofs.States.{state-is, state-fits, library-is}
 use Rattle.packed_bind.specs.Packed.{stateFields, isState, stateWords, stateAt, states, itemWords, itemAt, items}
-use Rattle.runs.specs.Runs.{begun, item, Walks}
+use Rattle.runs.specs.Runs.{begun, item, mapped, Walks}
 
 -- ---- a state whose fields are such as their types have comes back from its bytes whole
 
@@ -40,7 +40,7 @@ module _ (w : State Registers) (t : Typed TypedRegisters w) where
       let r = w .registers in
       word-field (byte-field (word-field (word-field (word-field
       (flag-field (flag-field (flag-field (flag-field (flag-field (flag-field
-      (byte-field (byte-field (word-field (word-field (word-field (byte-field (word-field none (word-below (r .addend) (g .addend))) (g .flags)) (g .length)) (g .place)) (word-below (r .library) (widened (r .library) (g .library)))) (g .kind)) (g .segment))
+      (byte-field (byte-field (word-field (word-field (word-field (byte-field (word-field none (unsigned-less (r .addend) (g .addend))) (g .flags)) (g .length)) (g .place)) (unsigned-less (r .library) (widened (r .library) (g .library)))) (g .kind)) (g .segment))
       (r .named)) (r .sourced)) (r .typed)) (r .segmented)) (r .lazy)) (w .cursor .ended))
       (c .offset)) (c .advance)) (c .remaining)) (c .size)) (c .at)
 
@@ -151,8 +151,8 @@ long x = length-bytes (itemWords x)
 module _ (x : Bind) (t : TypedBind x) where
   item-each : Each (itemWords x) (u8 ∷ u64 ∷ u8 ∷ u64 ∷ u64 ∷ u64 ∷ u8 ∷ u64 ∷ [])
   item-each =
-      byte-field (word-field (byte-field (word-field (word-field (word-field (byte-field (word-field none (word-below (x .addend) (t .addend)))
-      (t .flags)) (t .length)) (t .place)) (word-below (x .library) (widened (x .library) (t .library)))) (t .kind)) (t .offset)) (t .segment)
+      byte-field (word-field (byte-field (word-field (word-field (word-field (byte-field (word-field none (unsigned-less (x .addend) (t .addend)))
+      (t .flags)) (t .length)) (t .place)) (unsigned-less (x .library) (widened (x .library) (t .library)))) (t .kind)) (t .offset)) (t .segment)
 
   item-back : (i : ℕ) → i < 8 → wordAt (items .bytes x) i ≡ getD (itemWords x) i 0
   item-back i h = word-back (itemWords x) i h (each-at item-each i h)
@@ -184,6 +184,13 @@ module _ (s : List ℕ) (short : length s < 2 ^ 64) where
   -- the record of every item that is yielded tells which it is
   pub items-back : (w : State Registers) → Typed TypedRegisters w → {x : Bind} {v : State Registers} → call binds s w ≡ item x v → itemAt (items .bytes x) ≡ x
   items-back w t {x} e = tells x (typed-item s short w t e)
+
+  -- so the records of all tell what the stream lists
+  pub listing-back : (size : ℕ) (g : Registers) → TypedRegisters g → {w : State Registers} → begin size g ≡ begun w →
+      mapped itemAt (recorded items (listing.heard (listing.listing binds size g s))) ≡ listing.heard (listing.listing binds size g s)
+  listing-back size g t {w} e =
+      records-back states items (Typed TypedRegisters) faithful long (call binds s) (typed-call s short) itemAt (λ w t x v. items-back w t)
+      (joined binds s size g w e) (typed-begin TypedRegisters size g t e)
 
   -- a state out of range comes back as it came
   pub out-of-range-back : (state told : List ℕ) → Bytes state → isState state ≡ true → length told ≡ 64 → inRange (stateAt state .cursor) (length s) ≡ false →

@@ -4,7 +4,7 @@ use mathlib.Core.List.{List, [], _∷_}
 use Rattle.imports.specs.declared.Import.{Import}
 use Rattle.imports.specs.declared.ImportWalk.{ImportWalk}
 use Rattle.packing.specs.Boundary.{States, Items}
-use Rattle.packing.specs.Fields.{flag, u64, fits, isSet, bit, unsignedOf}
+use Rattle.packing.specs.Fields.{flag, u64, fits, isSet, bit, unsignedOf, signedOf}
 use Rattle.packing.specs.Words.{wordAt, bytesOf}
 
 -- ---- states: place, symbols, left, format, ended
@@ -38,6 +38,17 @@ states =
 
 abbrev pub itemWords : Import → List ℕ
 itemWords x = unsignedOf (x .library) ∷ bit (x .weak) ∷ unsignedOf (x .addend) ∷ x .place ∷ x .length ∷ []
+
+-- which item a record tells
+abbrev pub itemAt : List ℕ → Import
+itemAt s =
+    record {
+      library = signedOf (wordAt s 0);
+      weak = isSet (wordAt s 1);
+      addend = signedOf (wordAt s 2);
+      place = wordAt s 3;
+      length = wordAt s 4;
+    }
 
 abbrev pub items : Items Import
 items =

@@ -12,5 +12,8 @@ four : (f : Fixing) → length (fixingWords f) ≡ 4
 four (rebase target) = refl
 four (bind ordinal addend) = refl
 
+pub five : (x : Fixed) → length (itemWords x) ≡ 5
+five x = ap suc (four (x .fixing))
+
 pub over-item : (s : List ℕ) {t : List ℕ} (vs : List ℕ) (x : Fixed) → t ≡ written vs s → vs ≡ itemWords x → length s ≡ items .long → t ≡ items .bytes x
-over-item s vs x e f l = over s vs (itemWords x) e f (l ∙ ap (λ (n : ℕ). 8 * suc n) (sym (four (x .fixing))))
+over-item s vs x e f l = over s vs (itemWords x) e f (l ∙ ap (λ (n : ℕ). 8 * n) (sym (five x)))

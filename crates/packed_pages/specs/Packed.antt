@@ -2,12 +2,13 @@
 use Prim.Native.Nat.{ℕ, _*_}
 use mathlib.Core.Bool.{cond}
 use mathlib.Core.List.{List, [], _∷_, _++_}
+use lib.Dec.{eqb}
 use Rattle.packed_segments.specs.Packed.{segmentFields, segmentWords, segmentAt}
 use Rattle.packing.specs.Boundary.{States, Items, unfit}
 use Rattle.packing.specs.Fields.{flag, u64, fits, isSet, bit}
 use Rattle.packing.specs.Words.{wordAt, bytesOf}
 use Rattle.pages.specs.Call.{begin}
-use Rattle.pages.specs.ChainedPointers.{Fixing, rebase, bind, Fixed}
+use Rattle.pages.specs.ChainedPointers.{Fixing, rebase, bind, Fixed, fixed}
 use Rattle.pages.specs.declared.PageWalk.{PageWalk}
 use Rattle.runs.specs.Runs.{Begin, notBegun}
 
@@ -65,6 +66,10 @@ fixingWords (bind ordinal addend) = 1 ∷ 0 ∷ ordinal ∷ addend ∷ []
 
 abbrev pub itemWords : Fixed → List ℕ
 itemWords x = x .place ∷ fixingWords (x .fixing)
+
+-- which item a record tells
+abbrev pub itemAt : List ℕ → Fixed
+itemAt s = fixed (wordAt s 0) (cond (eqb (wordAt s 1) 0) (rebase (wordAt s 2)) (bind (wordAt s 3) (wordAt s 4)))
 
 abbrev pub items : Items Fixed
 items =

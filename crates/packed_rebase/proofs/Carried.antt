@@ -12,7 +12,7 @@ use Rattle.listing.proofs.Typed.{Typed, typed-begin}
 use Rattle.listing.specs.Call.{State, state, begin, call}
 use Rattle.listing.specs.Listing as listing
 use Rattle.packing.proofs.Back.{Each, none, word-field, byte-field, flag-field, each-at, word-back, fits-back, flag-back}
-use Rattle.packing.proofs.Calls.{Faithful, Long, started-say, refused-back}
+use Rattle.packing.proofs.Calls.{Faithful, Long, started-say, records-back, refused-back}
 use Rattle.packing.proofs.Fields.{fits-long, at-most}
 use Rattle.packing.proofs.Whole.{Bytes, words-whole, flag-whole}
 use Rattle.packing.proofs.Words.{length-bytes}
@@ -25,7 +25,7 @@ use Rattle.rebase.proofs.Typed.{TypedRegisters, typed-unset, TypedRebase, typed
 use Rattle.rebase.specs.Rebases.{unset, rebases}
 use Rattle.rebase.specs.declared.Rebase.{Rebase}
 use Rattle.rebase.specs.declared.Registers.{Registers}
-use Rattle.runs.specs.Runs.{begun, item, Walks}
+use Rattle.runs.specs.Runs.{begun, item, mapped, Walks}
 
 -- ---- a state whose fields are such as their types have comes back from its bytes whole
 
@@ -136,6 +136,13 @@ module _ (s : List ℕ) (short : length s < 2 ^ 64) where
   -- the record of every item that is yielded tells which it is
   pub items-back : (w : State Registers) → Typed TypedRegisters w → {x : Rebase} {v : State Registers} → call rebases s w ≡ item x v → itemAt (items .bytes x) ≡ x
   items-back w t {x} e = tells x (typed-item s short w t e)
+
+  -- so the records of all tell what the stream lists
+  pub listing-back : (size : ℕ) {w : State Registers} → begin size unset ≡ begun w →
+      mapped itemAt (recorded items (listing.heard (listing.listing rebases size unset s))) ≡ listing.heard (listing.listing rebases size unset s)
+  listing-back size {w} e =
+      records-back states items (Typed TypedRegisters) faithful long (call rebases s) (typed-call s short) itemAt (λ w t x v. items-back w t)
+      (joined rebases s size unset w e) (typed-begin TypedRegisters size unset typed-unset e)
 
   -- a state out of range comes back as it came
   pub out-of-range-back : (state told : List ℕ) → Bytes state → fits state stateFields ≡ true → length told ≡ 24 → inRange (stateAt state .cursor) (length s) ≡ false →

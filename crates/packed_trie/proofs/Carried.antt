@@ -5,6 +5,8 @@ use mathlib.Core.Bool.{Bool, true, false}
 use mathlib.Core.List.{List, _++_}
 use native.Mathlib.Omega.{arith}
 use borrow.Author.Tests.{le-leb, eq-eqb}
+use mir.Syntax.{w8}
+use mir.Val.{Fits}
 use lib.ListN.{length, take, drop, getD, length-append, length-drop, List·getD-append}
 use lib.Seq.{take-append-le, drop-append-le, drop-at, getD-append-add}
 use Rattle.numbers.specs.Digits.{fromDigits}
@@ -111,7 +113,7 @@ module _ (w : TrieWalk) (t : Typed w) where
 
   pub state-bytes : Bytes (stateBytes w)
   unfolding stateBytes
-  state-bytes = append-each (λ v. v < 256) (bytesOf (stateWords w)) (w .left) (bytes-written (stateWords w)) (λ i. omega (arith, t .left .each i))
+  state-bytes = append-each (Fits w8) (bytesOf (stateWords w)) (w .left) (bytes-written (stateWords w)) (λ i. record { fits = omega (arith, t .left .each i) })
 
   -- so a call on the bytes of a state is a call on the state
   pub carried : (s : List ℕ) (limit : ℕ) (name told : List ℕ) → length told ≡ itemLong →

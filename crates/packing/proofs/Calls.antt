@@ -1,7 +1,7 @@
 -- Calls in a row through an entry point say what calls of the walk say; and a state that a call hands back as it was given keeps its bytes.
 -- Assumes nothing.
 use Prim.Native.Nat.{ℕ}
-use mathlib.Core.Path.{_≡_, sym, ap, _∙_, subst}
+use mathlib.Core.Path.{_≡_, refl, sym, ap, _∙_, subst}
 use mathlib.Core.Bool.{true, and-eq-true-iff}
 use mathlib.Core.List.{List}
 use native.Mathlib.Omega.{arith}
@@ -13,8 +13,9 @@ use Rattle.packing.specs.Calls.{Lent, lent, heardBy, heard, through, rec
 use Rattle.packing.proofs.Boundary.{carried, by-state}
 use Rattle.packing.proofs.Whole.{Bytes}
 use Rattle.refusal.proofs.Numbered.{IsNumber}
-use Rattle.runs.proofs.Walks.{Hands}
-use Rattle.runs.specs.Runs.{Begin, begun, Answer, item, end, refused, Run, Walks, at-end, at-refusal, at-item}
+use Rattle.runs.proofs.Alike.{Alike, walks-alike}
+use Rattle.runs.proofs.Walks.{Hands, if-item, hands-stays, told-back}
+use Rattle.runs.specs.Runs.{Begin, begun, Answer, item, end, refused, Run, mapped, Walks}
 
 -- ---- states in bytes, both ways: of those whose fields are such as their types have (`Typed`), and of bytes that hold one
 
@@ -37,36 +38,57 @@ refused-by n r h =
     let below = ltb-true n 256 (b .1) in
     rw (ne-eqb n itemTold (λ e. omega (arith, above, e)), ne-eqb n endTold (λ e. omega (arith, below, e)))
 
+-- what a start has written
+pub wrote : {W : Type 0} (S : States W) {b : Begin W} {w : W} → b ≡ begun w → (state : List ℕ) → length state ≡ S .long → started S state b ≡ (itemTold, S .bytes w)
+unfolding started
+wrote S e state l = rw (eq-eqb (length state) (S .long) l, e)
+
+-- what is lent are the bytes of a state, and a record for an item
+pub record Lends {W X : Type 0} (S : States W) (I : Items X) (Typed : W → Type 0) (w : W) (r : Lent) : Type 0 where
+  pub typed : Typed w
+  pub state : r .state ≡ S .bytes w
+  pub told : length (r .told) ≡ I .long
+
 module _ {W X : Type 0} (S : States W) (I : Items X) (Typed : W → Type 0) (faithful : Faithful S Typed) (long : Long I) (call : W → Answer W X)
     (hands : (w : W) → Typed w → Hands Typed IsNumber (call w)) where
   -- a call on the bytes of a state is a call on the state
-  called : (w : W) → Typed w → (told : List ℕ) → length told ≡ I .long → {a : Answer W X} → call w ≡ a →
-      through S I call (lent (S .bytes w) told) ≡ heard (stepTold S I a)
-  called w t told l e =
-      ap heard (carried S I call w (faithful .holds w t) (faithful .whole w t) told l ∙ ap (stepTold S I) e)
+  called : (w : W) (r : Lent) → Lends S I Typed w r → through S I call r ≡ heard (stepTold S I (call w))
+  called w r h =
+      ap (λ (s : List ℕ). through S I call (lent s (r .told))) (h .state)
+      ∙ ap heard (carried S I call w (faithful .holds w (h .typed)) (faithful .whole w (h .typed)) (r .told) (h .told))
 
-  handed : {w : W} → Typed w → {a : Answer W X} → call w ≡ a → Hands Typed IsNumber a
-  handed {w} t e = subst (Hands Typed IsNumber) e (hands w t)
+  -- and they say the same; `Q` is what is asked of what is lent behind a refusal
+  module _ (Q : W → Lent → Type 0) (behind : (w : W) → Typed w → Q w (lent (S .bytes w) (I .blank))) where
+    told-alike : (a : Answer W X) → Hands Typed IsNumber a → Alike (Lends S I Typed) Q (I .bytes) a (heard (stepTold S I a))
+    told-alike (item x v) t =
+        record { state = lent (S .bytes v) (I .bytes x); is = refl; meets = record { typed = t; state = refl; told = long x } }
+    told-alike (end v) t = record { state = lent (S .bytes v) (I .blank); is = refl; meets = tt }
+    told-alike (refused n v) t =
+        record { state = lent (S .bytes v) (I .blank); is = refused-by n (lent (S .bytes v) (I .blank)) (t .1); meets = behind v (t .0) }
+
+    pub calls-alike : (w : W) (r : Lent) → Lends S I Typed w r → Alike (Lends S I Typed) Q (I .bytes) (call w) (through S I call r)
+    calls-alike w r h =
+        subst (Alike (Lends S I Typed) Q (I .bytes) (call w)) (sym (called w r h)) (told-alike (call w) (hands w (h .typed)))
 
   -- calls through the entry point say what calls of the walk say
   pub calls-say : {w : W} {r : Run X} → Walks call w r → Typed w → (told : List ℕ) → length told ≡ I .long →
       Walks (through S I call) (lent (S .bytes w) told) (recorded I r)
-  unfolding recorded
-  calls-say {w} (at-end e) t told l = at-end (called w t told l e)
-  calls-say {w} (at-refusal {e = n} e) t told l = at-refusal (called w t told l e ∙ refused-by n _ (handed t e .1))
-  calls-say {w} (at-item {x = x} e p) t told l =
-      at-item (called w t told l e) (calls-say p (handed t e) (I .bytes x) (long x))
-
-  -- what a start has written
-  wrote : {b : Begin W} {w : W} → b ≡ begun w → (state : List ℕ) → length state ≡ S .long → started S state b ≡ (itemTold, S .bytes w)
-  unfolding started
-  wrote e state l = rw (eq-eqb (length state) (S .long) l, e)
+  calls-say p t told l =
+      walks-alike (Lends S I Typed) (λ w r. Unit {0}) (I .bytes) call (through S I call) (calls-alike (λ w r. Unit {0}) (λ w t. tt)) p
+      (record { typed = t; state = refl; told = l })
 
   -- and so from there on
   pub started-say : {b : Begin W} {w : W} → b ≡ begun w → Typed w → {r : Run X} → Walks call w r → (state told : List ℕ) → length state ≡ S .long → length told ≡ I .long →
       Walks (through S I call) (lent (started S state b .1) told) (recorded I r)
   started-say e t {r} p state told l m =
-      subst (λ (q : ℕ × List ℕ). Walks (through S I call) (lent (q .1) told) (recorded I r)) (sym (wrote e state l)) (calls-say p t told m)
+      subst (λ (q : ℕ × List ℕ). Walks (through S I call) (lent (q .1) told) (recorded I r)) (sym (wrote S e state l)) (calls-say p t told m)
+
+  -- where the record of every item tells which it is, the records of all tell what the calls say
+  pub records-back : (itemAt : List ℕ → X) → ((w : W) → Typed w → (x : X) (v : W) → call w ≡ item x v → itemAt (I .bytes x) ≡ x) →
+      {w : W} {r : Run X} → Walks call w r → Typed w → mapped itemAt (recorded I r) ≡ r
+  records-back itemAt same =
+      told-back call (I .bytes) itemAt Typed (λ w t. hands-stays Typed IsNumber (call w) (hands w t))
+      (λ w t. if-item (λ x. itemAt (I .bytes x) ≡ x) (call w) (same w t))
 
   -- a state that comes back as it was given comes back as the bytes that were lent
   module _ (state : List ℕ) (bytes : Bytes state) (h : S .holds state ≡ true) (told : List ℕ) (l : length told ≡ I .long) where

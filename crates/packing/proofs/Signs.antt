@@ -90,9 +90,9 @@ signed-back (negsuc n) f =
     let same : 2 ^ 64 - 1 - v ≡ n = omega (arith, f .sfits) in
     negative v (omega (arith, f .sfits)) (omega arith) ∙ ap negsuc same
 
-pub word-below : (z : ℤ) → SFits w64 z → unsignedOf z < 2 ^ 64
-word-below (pos n) f = omega (arith, f .sfits)
-word-below (negsuc n) f = omega arith
+pub unsigned-less : (z : ℤ) → SFits w64 z → unsignedOf z < 2 ^ 64
+unsigned-less (pos n) f = omega (arith, f .sfits)
+unsigned-less (negsuc n) f = omega arith
 
 -- an i32 is an i64
 pub widened : (z : ℤ) → SFits w32 z → SFits w64 z

@@ -9,6 +9,9 @@ use borrow.Author.Tests.{le-leb}
 use lib.Dec.{leb}
 use lib.ListN.{length, take, drop, getD, length-drop}
 use lib.Seq.{take-add, take-all, drop-drop}
+use mir.Syntax.{w8}
+use mir.Val.{Fits}
+pub use Rattle.numbers.proofs.little_endian.Fields.{Bytes}
 use Rattle.numbers.proofs.little_endian.Fields.{field-below}
 use Rattle.numbers.specs.Digits.{fromDigits}
 use Rattle.numbers.specs.LittleEndian.{littleEndian, fieldAt}
@@ -17,10 +20,6 @@ use Rattle.numbers.specs.declared.Number.the-variants.{Value, Fault}
 use Rattle.packing.proofs.Signs.{positive, negative}
 use Rattle.packing.specs.Fields.{u64, isSet, bit, signedOf, unsignedOf}
 use Rattle.packing.specs.Words.{wordAt, wordsFrom, toDigits, wordBytes, bytesOf}
-
--- what the bytes of a slice are known to be
-abbrev pub Bytes : List ℕ → Type 0
-Bytes s = (i : ℕ) → getD s i 0 < 256
 
 pub bytes-drop : (k : ℕ) (s : List ℕ) → Bytes s → Bytes (drop k s)
 bytes-drop zero s h = h
@@ -36,14 +35,14 @@ append-each P (x ∷ xs) ys f g (suc i) = append-each P xs ys (λ j. f (suc j)) 
 -- what is written are bytes
 digits-bytes : (n v : ℕ) → Bytes (toDigits 256 n v)
 unfolding toDigits
-digits-bytes zero v i = omega arith
-digits-bytes (suc n) v zero = omega arith
+digits-bytes zero v i = record { fits = omega arith }
+digits-bytes (suc n) v zero = record { fits = omega arith }
 digits-bytes (suc n) v (suc i) = digits-bytes n (v / 256) i
 
 pub bytes-written : (vs : List ℕ) → Bytes (bytesOf vs)
 unfolding bytesOf
-bytes-written [] = λ i. omega arith
-bytes-written (v ∷ vs) = append-each (λ b. b < 256) (wordBytes v) (bytesOf vs) (digits-bytes 8 v) (bytes-written vs)
+bytes-written [] = λ i. record { fits = omega arith }
+bytes-written (v ∷ vs) = append-each (Fits w8) (wordBytes v) (bytesOf vs) (digits-bytes 8 v) (bytes-written vs)
 
 -- ---- a word
 
@@ -53,8 +52,8 @@ digits-whole zero s h l = refl
 digits-whole (suc n) [] h l = absurd (omega arith)
 digits-whole (suc n) (d ∷ s) h l =
     let v : ℕ = fromDigits 256 (take n s) in
-    let low : (d + 256 * v) % 256 ≡ d = omega (arith, h 0) in
-    let high : (d + 256 * v) / 256 ≡ v = omega (arith, h 0) in
+    let low : (d + 256 * v) % 256 ≡ d = omega (arith, h 0 .fits) in
+    let high : (d + 256 * v) / 256 ≡ v = omega (arith, h 0 .fits) in
     λ j. low j ∷ (ap (toDigits 256 n) high ∙ digits-whole n s (λ i. h (suc i)) (omega arith)) j
 
 pub word-whole : (s : List ℕ) → Bytes s → (i : ℕ) → 8 * i + 8 ≤ length s → wordBytes (wordAt s i) ≡ take 8 (drop (8 * i) s)
@@ -68,7 +67,7 @@ unfolding wordAt fieldAt thenNumber
 word-below s h i = by (leb (8 * i + 8) (length s))
   where
     by : (t : Bool) → thenNumber (cond t (Value (littleEndian 8 s (8 * i)) (8 * i + 8)) Fault) 0 (λ v next. v) ≤ u64
-    by true = omega (arith, field-below s 8 (8 * i) (λ j. record { fits = h j }))
+    by true = omega (arith, field-below s 8 (8 * i) h)
     by false = omega arith
 
 -- ---- words

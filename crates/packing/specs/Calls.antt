@@ -5,7 +5,7 @@ use mathlib.Core.Bool.{cond}
 use mathlib.Core.List.{List}
 use lib.Dec.{eqb}
 use Rattle.packing.specs.Boundary.{States, Items, itemTold, endTold, stepped}
-use Rattle.runs.specs.Runs.{Answer, item, end, refused, Run, stops, fails, gives}
+use Rattle.runs.specs.Runs.{Answer, item, end, refused, Run, mapped}
 
 -- the bytes of the state and those of the item
 pub record Lent : Type 0 where
@@ -27,7 +27,5 @@ abbrev pub through : {W X : Type 0} → States W → Items X → (W → Answer W
 through S I call r = heard (stepped S I (r .state) (r .told) call)
 
 -- a run of items, as a run of their records
-unfoldable pub recorded : {X : Type 0} → Items X → Run X → Run (List ℕ)
-recorded I stops = stops
-recorded I (fails number) = fails number
-recorded I (gives x r) = gives (I .bytes x) (recorded I r)
+abbrev pub recorded : {X : Type 0} → Items X → Run X → Run (List ℕ)
+recorded I r = mapped (I .bytes) r

@@ -1,14 +1,15 @@
 -- What holds of every answer of a call, by what holds of the states on the way. Assumes nothing.
 use Prim.Native.Nat.{ℕ, zero, suc, _+_, _-_, _<_}
 use mathlib.Core.Path.{_≡_, refl, sym, subst}
-use mathlib.Core.Bool.{Bool, true, false}
+use mathlib.Core.Bool.{Bool, true, false, cond}
 use mathlib.Core.List.{List}
 use native.Mathlib.Omega.{arith}
+use borrow.Author.Tests.{leb-false}
 use lib.ListN.{length}
 use Rattle.numbers.proofs.Picks.{by-pick}
 use Rattle.numbers.proofs.Then.{by-number}
 use Rattle.numbers.specs.LittleEndian.{fieldAt}
-use Rattle.pages.proofs.Calls.{call-live}
+use Rattle.pages.proofs.Calls.{counted, call-live}
 use Rattle.pages.specs.Call.{onPage, toChain, toPointer, onward, chain, opened, pages, soughtBy, seek, refusing, pointer, answered, outOfRange, call}
 use Rattle.pages.specs.ChainedPointers.{startAt, isNone, isMarked, unmarked, widthOf, fixingOf, nextOf, Fixed, fixed}
 use Rattle.pages.specs.declared.PageWalk.{PageWalk}
@@ -27,20 +28,25 @@ Comes I sought.Beyond = Unit {0}
 -- what every step of a search keeps
 pub record Keeps (I : PageWalk → Type 0) : Type 0 where
   pub on-page : (w : PageWalk) → w .page < w .segment .pages → I w → I (onPage w)
-  pub to-chain : (w : PageWalk) (index : ℕ) → I w → I (toChain index w)
-  pub to-pointer : (w : PageWalk) (more : Bool) (offset : ℕ) → I w → I (toPointer more offset w)
+  pub to-list : (w : PageWalk) (index : ℕ) → index < 0x8000 → I w → I (toChain index w)
+  pub next-chain : (w : PageWalk) → w .chain < w .segment .count → I w → I (toChain (w .chain + 1) w)
+  pub to-pointer : (w : PageWalk) (more : Bool) (place : ℕ) → place < 0x8000 → I w → I (toPointer more (w .origin + place) w)
 
 module _ (s : List ℕ) {I : PageWalk → Type 0} (k : Keeps I) where
   by-chain : (w : PageWalk) → I w → Comes I (chain s w)
   unfolding chain
   by-chain w i =
       by-number (startAt s (w .segment) (w .chain)) _ _ (Comes I) tt
-      (λ start after e. k .to-pointer (toChain (w .chain + 1) w) _ _ (k .to-chain w _ i))
+      (λ start after e.
+      k .to-pointer (toChain (w .chain + 1) w) _ (unmarked start) (omega arith) (k .next-chain w (counted s (w .segment) (w .chain) refl e) i))
 
   by-open : (w : PageWalk) (start : ℕ) → I w → Comes I (opened s w start)
   unfolding opened
-  by-open w start i =
-      by-pick (Comes I) (isMarked start) _ _ (by-chain (toChain (unmarked start) w) (k .to-chain w _ i)) (k .to-pointer w _ _ i)
+  by-open w start i = by (isMarked start) refl
+    where
+      by : (t : Bool) → isMarked start ≡ t → Comes I (cond t (chain s (toChain (unmarked start) w)) (sought.At (toPointer false (w .origin + start) w)))
+      by true e = by-chain (toChain (unmarked start) w) (k .to-list w (unmarked start) (omega arith) i)
+      by false e = k .to-pointer w false start (leb-false 0x8000 start e) i
 
   by-pages : (n : ℕ) (w : PageWalk) → w .segment .pages - w .page ≡ n → I w → Comes I (pages s n w)
   unfolding pages

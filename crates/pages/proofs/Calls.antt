@@ -28,7 +28,7 @@ use Rattle.runs.specs.Runs.{Answer, item, end, refused}
 
 -- ---- the start of a chain is due
 
-counted : (s : List ℕ) (g : Segment) (index : ℕ) {r : Number} {v next : ℕ} → r ≡ startAt s g index → r ≡ Value v next → index < g .count
+pub counted : (s : List ℕ) (g : Segment) (index : ℕ) {r : Number} {v next : ℕ} → r ≡ startAt s g index → r ≡ Value v next → index < g .count
 unfolding startAt
 counted s g index e f = by-test (ltb index (g .count)) refl (fieldAt 2 s (g .place + 2 * index)) (sym e ∙ f)
   where

@@ -8,6 +8,7 @@ use native.Mathlib.Omega.{arith}
 use borrow.Author.Tests.{le-ltb}
 use lib.Dec.{eqb}
 use lib.ListN.{length}
+use Rattle.chains.proofs.Typed.{TypedSegment}
 use Rattle.chains.specs.declared.Segment.{Segment}
 use Rattle.numbers.proofs.Picks.{by-pick}
 use Rattle.pages.proofs.Ahead.{ahead, says}
@@ -20,16 +21,10 @@ use Rattle.pages.specs.declared.PageWalk.{PageWalk}
 use Rattle.runs.proofs.Walks.{Stays, walks-ahead, walks-one}
 use Rattle.runs.specs.Runs.{Begin, begun, notBegun, Run, fails, Walks}
 
--- what the types hold: a page size and a number of pages are u16, and a slice has less than 2^64 bytes
-pub record Typed (g : Segment) (d : List ℕ) : Type 0 where
-  pub size : g .size ≤ 65535
-  pub pages : g .pages ≤ 65535
-  pub room : length d < 2 ^ 64
-
-module _ (s d : List ℕ) where
+module _ (s d : List ℕ) (short : length d < 2 ^ 64) where
   -- a walk that goes on: in range, and not ended
   pub record Going (g : Segment) (origin : ℕ) (ended : Bool) : Type 0 where
-    pub typed : Typed g d
+    pub typed : TypedSegment g
     pub inside : startsOut g (length s) ≡ false
     pub format : isFormat (g .format) ≡ true
     pub near : origin ≤ farthest
@@ -53,11 +48,12 @@ module _ (s d : List ℕ) where
               typed = i .typed;
               inside = i .inside;
               format = i .format;
-              near = origin-within {pages = v .segment .pages} l (i .typed .pages) (i .typed .size);
+              near = origin-within {pages = v .segment .pages} l (omega (arith, i .typed .pages)) (omega (arith, i .typed .size));
               live = i .live;
             };
-        to-chain = λ v index i. i;
-        to-pointer = λ v more offset i. i;
+        to-list = λ v index l i. i;
+        next-chain = λ v l i. i;
+        to-pointer = λ v more place l i. i;
       })
       (λ e. tt)
       (λ v i. tt)
@@ -66,11 +62,11 @@ module _ (s d : List ℕ) where
 
   -- calls from any state that goes on, made up or not, say what it has still to list; so every walk ends
   pub walks : (w : PageWalk) → Goes w → Walks (call s d) w (ahead s d w)
-  walks = walks-ahead (call s d) (ahead s d) Goes (λ w h. says s d (h .typed .room) w (in-range w h) (h .live)) goes
+  walks = walks-ahead (call s d) (ahead s d) Goes (λ w h. says s d short w (in-range w h) (h .live)) goes
 
   -- ---- a start
 
-  module _ (g : Segment) (base : ℕ) (t : Typed g d) where
+  module _ (g : Segment) (base : ℕ) (t : TypedSegment g) where
     record Begins (w : PageWalk) : Type 0 where
       going : Goes w
       all : listing s d g base ≡ ahead s d w

@@ -31,7 +31,7 @@ module _ (s d : List ℕ) (w : PageWalk) where
         by-ended true e = subst Marked (call-ended s d w refl i e) tt
         by-ended false e =
             by-call s d w {I = λ v. Unit {0}} Marked
-            (record { on-page = λ v l i. tt; to-chain = λ v index i. tt; to-pointer = λ v more offset i. tt })
+            (record { on-page = λ v l i. tt; to-list = λ v index l i. tt; next-chain = λ v l i. tt; to-pointer = λ v more place l i. tt })
             (λ e. refl) (λ v i. tt) (λ v n i. tt) i e tt
 
     -- any other refusal hands back the state as given, marked as ended

@@ -8,3 +8,4 @@ pub mod Ahead
 pub mod Joined
 pub mod Kept
 pub mod Unique
+pub mod Typed

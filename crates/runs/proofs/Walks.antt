@@ -3,7 +3,7 @@
 use Prim.Native.Nat.{ℕ}
 use mathlib.Core.Path.{_≡_, refl, ap, ap₂, sym, _∙_, subst}
 use native.Mathlib.Omega.{arith}
-use Rattle.runs.specs.Runs.{Answer, item, end, refused, Run, stops, fails, gives, _then_, Walks, at-end, at-refusal, at-item}
+use Rattle.runs.specs.Runs.{Begin, begun, notBegun, Answer, item, end, refused, Run, stops, fails, gives, _then_, mapped, Walks, at-end, at-refusal, at-item}
 
 pub then-stops : {Item : Type 0} (r : Run Item) → (r then stops) ≡ r
 unfolding _then_
@@ -16,6 +16,11 @@ unfolding _then_
 then-then stops q p = refl
 then-then (fails number) q p = refl
 then-then (gives x r) q p = ap (gives x) (then-then r q p)
+
+-- of a start, what holds of the state that it gives
+abbrev pub IfBegun : {W : Type 0} → (W → Type 0) → Begin W → Type 0
+IfBegun P (begun w) = P w
+IfBegun P (notBegun number) = Unit {0}
 
 module _ {W Item : Type 0} where
   -- what an answer says, with what is ahead of the state that it hands back
@@ -30,6 +35,12 @@ module _ {W Item : Type 0} where
   Stays P (end v) = Unit {0}
   Stays P (refused number v) = Unit {0}
 
+  -- of an item, what holds of it
+  abbrev pub IfItem : (Item → Type 0) → Answer W Item → Type 0
+  IfItem P (item x v) = P x
+  IfItem P (end v) = Unit {0}
+  IfItem P (refused number v) = Unit {0}
+
   -- of a refusal, what holds of the state that it hands back
   abbrev pub IfRefused : (W → Type 0) → Answer W Item → Type 0
   IfRefused P (item x v) = Unit {0}
@@ -41,6 +52,16 @@ module _ {W Item : Type 0} where
   Hands P N (item x v) = P v
   Hands P N (end v) = P v
   Hands P N (refused number v) = P v × N number
+
+  pub if-item : (P : Item → Type 0) (a : Answer W Item) → ((x : Item) (v : W) → a ≡ item x v → P x) → IfItem P a
+  if-item P (item x v) h = h x v refl
+  if-item P (end v) h = tt
+  if-item P (refused number v) h = tt
+
+  pub hands-stays : (P : W → Type 0) (N : ℕ → Type 0) (a : Answer W Item) → Hands P N a → Stays P a
+  hands-stays P N (item x v) h = h
+  hands-stays P N (end v) h = tt
+  hands-stays P N (refused number v) h = tt
 
 module _ {W Item : Type 0} (call : W → Answer W Item) where
   pub walks-one : {w : W} {r q : Run Item} → Walks call w r → Walks call w q → r ≡ q
@@ -56,6 +77,16 @@ module _ {W Item : Type 0} (call : W → Answer W Item) where
       let d : u ≡ v = cc in
       let c : x ≡ y = cc in
       ap₂ gives c (walks-one p (subst (λ (a : W). Walks call a r) d q))
+
+  -- where of every item something is told that it can be told back from, so can the run
+  module _ {X : Type 0} (told : Item → X) (back : X → Item) (P : W → Type 0) (stays : (w : W) → P w → Stays P (call w))
+      (same : (w : W) → P w → IfItem (λ x. back (told x) ≡ x) (call w)) where
+    pub told-back : {w : W} {r : Run Item} → Walks call w r → P w → mapped back (mapped told r) ≡ r
+    unfolding mapped
+    told-back (at-end e) p = refl
+    told-back (at-refusal e) p = refl
+    told-back {w} (at-item e q) p =
+        ap₂ gives (subst (IfItem (λ x. back (told x) ≡ x)) e (same w p)) (told-back q (subst (Stays P) e (stays w p)))
 
   module _ (ahead : W → Run Item) (P : W → Type 0) (says : (w : W) → P w → ahead w ≡ shown ahead (call w)) (stays : (w : W) → P w → Stays P (call w)) where
     abbrev Heard : Run Item → Type 0

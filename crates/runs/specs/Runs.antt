@@ -27,6 +27,12 @@ stops then q = q
 fails number then q = fails number
 gives x r then q = gives x (r then q)
 
+-- each item as something else of it
+unfoldable pub mapped : {X Y : Type 0} → (X → Y) → Run X → Run Y
+mapped f stops = stops
+mapped f (fails number) = fails number
+mapped f (gives x r) = gives (f x) (mapped f r)
+
 -- calls from the state w on say this
 pub data Walks {W Item : Type 0} (call : W → Answer W Item) : W → Run Item → Type 0 where
   at-end : {w v : W} → call w ≡ end v → Walks call w stops

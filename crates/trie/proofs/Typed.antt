@@ -5,6 +5,7 @@ use mathlib.Core.Path.{_≡_, refl, _∙_, subst}
 use mathlib.Core.List.{List}
 use native.Mathlib.Omega.{arith}
 use lib.ListN.{length, getD, set, replicate, length-set}
+use Rattle.numbers.proofs.little_endian.Fields.{Bytes}
 use Rattle.trie.proofs.Children.{TerminalIn, node-in}
 use Rattle.trie.proofs.Course.{Next, over, stopped, reached, next, next-by, Course, ends, refuses, waits, limits, exports, visits, call-by}
 use Rattle.trie.proofs.Exports.{ExportIn}
@@ -38,9 +39,9 @@ pub record Fields (p o l n : List ℕ) (d : ℕ) : Type 0 where
 abbrev pub Typed : TrieWalk → Type 0
 Typed w = Fields (w .places) (w .offsets) (w .left) (w .lengths) (w .depth)
 
--- what is lent: bytes are below 256, and a slice has less than 2^64 of them; so many has the name buffer
+-- what is lent: bytes are bytes, and a slice has less than 2^64 of them; so many has the name buffer
 pub record Lent (s : List ℕ) (room : ℕ) : Type 0 where
-  pub bytes : (i : ℕ) → getD s i 0 < 256
+  pub bytes : Bytes s
   pub short : length s < 2 ^ 64
   pub small : room < 2 ^ 64
 
@@ -104,7 +105,7 @@ module _ (s : List ℕ) (room : ℕ) (lent : Lent s room) where
         let i = within s w b e n f in
         let j = counted s w b e n f in
         let fits : childName (closed w) e ≤ room = omega (arith, read s w b e n f .fits, l) in
-        let few : n .children ≤ 2 ^ 8 - 1 = omega (arith, j .count, lent .bytes (n .place - 1)) in
+        let few : n .children ≤ 2 ^ 8 - 1 = omega (arith, j .count, lent .bytes (n .place - 1) .fits) in
         let fewer : onTop (closed w) (w .left) - 1 ≤ 2 ^ 8 - 1 = omega (arith, t .left .each (d - 1)) in
         record {
           typed = record {
@@ -126,7 +127,7 @@ module _ (s : List ℕ) (room : ℕ) (lent : Lent s room) where
           typed = record {
             places = set-array (t .places) 0 (n .place) (omega (arith, j .inside, lent .short));
             offsets = set-array (t .offsets) 0 0 (omega arith);
-            left = set-array (t .left) 0 (n .children) (omega (arith, j .count, lent .bytes (n .place - 1)));
+            left = set-array (t .left) 0 (n .children) (omega (arith, j .count, lent .bytes (n .place - 1) .fits));
             lengths = set-array (t .lengths) 0 0 (omega arith);
             depth = omega arith;
           };

@@ -1,0 +1,111 @@
+-- States and items whose fields are such as their types have: a start gives such a state, and every call on one hands such a one back, and
+-- such an item. Refusals have a number of the table. Assumes nothing.
+use Prim.Native.Nat.{ℕ, zero, suc, _-_, _^_, _<_}
+use mathlib.Core.Path.{_≡_, refl, subst}
+use mathlib.Core.Bool.{not}
+use mathlib.Core.List.{List}
+use native.Mathlib.Omega.{arith}
+use lib.Dec.{ltb, eqb}
+use lib.IntN.{ℤ}
+use lib.ListN.{length}
+use mir.Syntax.{w32, w64}
+use mir.Val.{SFits}
+use Rattle.chains.proofs.Headers.{by-header}
+use Rattle.chains.proofs.Typed.{typed-header}
+use Rattle.chains.specs.FixupChains.{bits, headerAt}
+use Rattle.imports.specs.Call.{begin, marked, imported, next, outOfRange, call}
+use Rattle.imports.specs.ChainedImports.{thenImports, narrow, wide, importAt}
+use Rattle.imports.specs.declared.Import.{Import}
+use Rattle.imports.specs.declared.ImportWalk.{ImportWalk}
+use Rattle.imports.specs.declared.record.ImportRead.{ImportRead}
+use Rattle.imports.specs.declared.record.ImportRead.the-variants.{Found, Refused}
+use Rattle.imports.specs.declared.record.Record.{Record}
+use Rattle.numbers.proofs.Picks.{by-pick}
+use Rattle.numbers.proofs.Rows.{field-less}
+use Rattle.numbers.proofs.little_endian.Fields.{Bytes}
+use Rattle.refusal.proofs.Numbered.{IsNumber, is-number}
+use Rattle.refusal.specs.declared.Refusal.the-variants.{StateOutOfRange}
+use Rattle.runs.proofs.Walks.{IfBegun, Hands}
+use Rattle.runs.specs.Runs.{begun, Answer, item}
+use Rattle.imports.proofs.Inside.{IfImport, by-import, yielded, Inside, import-inside}
+use Rattle.imports.proofs.Signs.{library-fits, addend-fits}
+
+-- ---- an item
+
+pub record TypedImport (x : Import) : Type 0 where
+  pub library : SFits w32 (x .library)
+  pub addend : SFits w64 (x .addend)
+  pub place : x .place < 2 ^ 64
+  pub length : x .length < 2 ^ 64
+
+record TypedRecord (r : Record) : Type 0 where
+  library : SFits w32 (r .library)
+  addend : SFits w64 (r .addend)
+
+module _ (n : ℕ) {addend : ℤ} (h : SFits w64 addend) where
+  typed-narrow : TypedRecord (narrow n addend)
+  typed-narrow = record { library = library-fits (bits 0 8 n) 0xf0 0xff refl (omega arith) (omega arith); addend = h }
+
+  typed-wide : TypedRecord (wide n addend)
+  typed-wide = record { library = library-fits (bits 0 16 n) 0xfff0 0xffff refl (omega arith) (omega arith); addend = h }
+
+-- every one that is yielded has fields such as their types have
+pub typed-item : (s : List ℕ) → Bytes s → length s < 2 ^ 64 → (w : ImportWalk) {x : Import} {v : ImportWalk} → call s w ≡ item x v → TypedImport x
+typed-item s b short w =
+    yielded s w (λ x next. TypedImport x)
+    (by-import s (λ r next. TypedRecord r)
+    (record {
+      plain = λ n at next e. typed-narrow n (record { sfits = omega arith });
+      addend = λ n a at next e. typed-narrow n (addend-fits a (2 ^ 31 - 1) (2 ^ 32 - 1) (omega (arith, field-less 4 s at refl e b)) (omega arith) (omega arith));
+      addend64 = λ n a at next e. typed-wide n (addend-fits a (2 ^ 63 - 1) (2 ^ 64 - 1) (omega (arith, field-less 8 s at refl e b)) (omega arith) (omega arith));
+    })
+    (λ x next. TypedImport x)
+    (λ r next place len t l. record { library = t .library; addend = t .addend; place = omega (arith, short); length = omega (arith, short) })
+    (w .format) (w .symbols) (w .place))
+
+-- ---- a state
+
+pub record Typed (w : ImportWalk) : Type 0 where
+  pub place : w .place < 2 ^ 64
+  pub symbols : w .symbols < 2 ^ 64
+  pub left : w .left < 2 ^ 64
+  pub format : w .format < 2 ^ 64
+
+-- a start
+pub typed-begin : (s : List ℕ) → Bytes s → {w : ImportWalk} → begin s ≡ begun w → Typed w
+unfolding begin thenImports
+typed-begin s b e =
+    subst (IfBegun Typed) e
+    (by-header (headerAt s) _ _ (IfBegun Typed) (λ n. tt)
+    (λ h i.
+    let t = typed-header s b i in
+    by-pick (IfBegun Typed) (not (eqb (h .packing) 0)) _ _ tt
+    (by-pick (IfBegun Typed) (ltb (length s) (h .imports)) _ _ tt
+    (by-pick (IfBegun Typed) (ltb (length s) (h .symbols)) _ _ tt
+    (record { place = t .imports; symbols = t .symbols; left = t .count; format = t .format })))))
+
+-- a call
+module _ (s : List ℕ) (short : length s < 2 ^ 64) (w : ImportWalk) (t : Typed w) where
+  abbrev Good : Answer ImportWalk Import → Type 0
+  Good = Hands Typed IsNumber
+
+  ended : Typed (marked w)
+  ended = record { place = t .place; symbols = t .symbols; left = t .left; format = t .format }
+
+  good-import : (left : ℕ) → left < 2 ^ 64 → (x : ImportRead) → IfImport (Inside s) x → Good (imported w left x)
+  unfolding imported
+  good-import left h (Found x at) i =
+      record { place = omega (arith, i .ends, short); symbols = t .symbols; left = h; format = t .format }
+  good-import left h (Refused e) i = (ended, is-number e)
+
+  good-next : (n : ℕ) → n < 2 ^ 64 → Good (next s w n)
+  unfolding next
+  good-next zero h = t
+  good-next (suc n) h =
+      good-import n (omega arith) (importAt s (w .format) (w .symbols) (w .place)) (import-inside s (w .format) (w .symbols) (w .place))
+
+  pub typed-call : Good (call s w)
+  unfolding call
+  typed-call =
+      by-pick Good (outOfRange (w .place) (w .symbols) (length s)) _ _ (t, is-number StateOutOfRange)
+      (by-pick Good (w .ended) _ _ t (good-next (w .left) (t .left)))
