@@ -1,4 +1,5 @@
 pub mod Streams
+pub mod Local
 pub mod Positions
 pub mod Runs
 pub mod Joined

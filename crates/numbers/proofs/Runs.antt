@@ -82,7 +82,7 @@ IfRun ends from (run bs) = IsRun ends from bs
 IfRun ends from unended = Unit {0}
 
 module _ (ends : ℕ → Bool) where
-  goes-before : (b : ℕ) (ps : List ℕ) → ends b ≡ false → ((i : ℕ) → i < length ps → ends (getD ps i 0) ≡ false) → (i : ℕ) → i < length (b ∷ ps) → ends (getD (b ∷ ps) i 0) ≡ false
+  pub goes-before : (b : ℕ) (ps : List ℕ) → ends b ≡ false → ((i : ℕ) → i < length ps → ends (getD ps i 0) ≡ false) → (i : ℕ) → i < length (b ∷ ps) → ends (getD (b ∷ ps) i 0) ≡ false
   goes-before b ps e f zero h = e
   goes-before b ps e f (suc i) h = f i (omega arith)
 

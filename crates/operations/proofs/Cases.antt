@@ -3,19 +3,17 @@ use Prim.Native.Nat.{ℕ, _+_, _*_, _/_, _%_, _≤_, _<_}
 use mathlib.Core.Path.{_≡_, refl}
 use mathlib.Core.Bool.{Bool, true, false, cond}
 use mathlib.Core.List.{List, [], _∷_}
+use mathlib.Core.Option.{Option, some}
 use native.Mathlib.Omega.{arith}
 use borrow.Author.Tests.{ltb-true, ltb-false}
 use lib.Dec.{ltb, eqb}
 use lib.ListN.{length, getD}
-use Rattle.operations.specs.Table.{Parsed, faulty, noBytes, Operands, Row, _⇒_, operandsAt, rowAt, operationAt}
+use Rattle.numbers.proofs.Picks.{by-pick}
+use Rattle.operations.specs.Table.{Parsed, faulty, noBytes, Operands, Row, _⇒_, operandsAt, lookedUp, operandsOf, foundAt, operationAt}
 use Rattle.refusal.specs.declared.Refusal.{Refusal}
 use Rattle.refusal.specs.declared.Refusal.the-variants.{UnknownOpcode}
 
 module _ {Op : Type 0} (P : Parsed Op → Type 0) (bad : (e : Refusal) → P (faulty e)) where
-  either : (t : Bool) (x y : Parsed Op) → P x → P y → P (cond t x y)
-  either true x y p q = p
-  either false x y p q = q
-
   module _ (s : List ℕ) (at : ℕ) where
     abbrev pub Each : List (Row Op) → Type 0
     Each [] = Unit {0}
@@ -25,15 +23,15 @@ module _ {Op : Type 0} (P : Parsed Op → Type 0) (bad : (e : Refusal) → P (fa
     each h [] = tt
     each h (k ⇒ operands ∷ rows) = (h operands, each h rows)
 
-    by-row : (opcode : ℕ) (rows : List (Row Op)) → Each rows → P (rowAt s at opcode rows)
-    unfolding rowAt
+    by-row : (opcode : ℕ) (rows : List (Row Op)) → Each rows → P (foundAt s at (lookedUp opcode rows))
+    unfolding lookedUp
     by-row opcode [] h = bad UnknownOpcode
     by-row opcode (k ⇒ operands ∷ rows) h =
-        either (eqb opcode k) (operandsAt s at operands) (rowAt s at opcode rows) (h .0) (by-row opcode rows (h .1))
+        by-pick (λ (o : Option (Operands Op)). P (foundAt s at o)) (eqb opcode k) (some operands) (lookedUp opcode rows) (h .0) (by-row opcode rows (h .1))
 
   module _ (table : ℕ → List (Row Op)) (s : List ℕ) (at : ℕ) (rows : at < length s → (imm : ℕ) → imm < 16 → Each s (at + 1) (table imm)) (none : length s ≤ at → P noBytes) where
     by-test : (t : Bool) → ltb at (length s) ≡ t →
-        P (cond t (rowAt s (at + 1) (getD s at 0 / 16 * 16) (table (getD s at 0 % 16))) noBytes)
+        P (cond t (foundAt s (at + 1) (operandsOf table (getD s at 0))) noBytes)
     by-test true e =
         by-row s (at + 1) (getD s at 0 / 16 * 16) (table (getD s at 0 % 16)) (rows (ltb-true at (length s) e) (getD s at 0 % 16) (omega arith))
     by-test false e = none (ltb-false at (length s) e)

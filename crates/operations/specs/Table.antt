@@ -3,6 +3,7 @@
 use Prim.Native.Nat.{ℕ, _+_, _*_, _/_, _%_}
 use mathlib.Core.Bool.{cond}
 use mathlib.Core.List.{List, [], _∷_}
+use mathlib.Core.Option.{Option, none, some}
 use lib.Dec.{ltb, eqb}
 use lib.IntN.{ℤ}
 use lib.ListN.{length, getD}
@@ -42,14 +43,21 @@ module _ {Op : Type 0} where
   operandsAt s at (sleb make) = thenSigned (slebAt s at) (faulty FaultyOperand) (λ v next. operation (make v) next)
   operandsAt s at (string make) = thenText (stringAt s at) (faulty FaultyOperand) (λ start len next. operation (make start len) next)
 
-  -- ---- opcodes: one that the table has not is refused
+  -- ---- opcodes: that of a byte is looked up in the table, and one that is not found there is refused
 
-  unfoldable pub rowAt : List ℕ → ℕ → (opcode : ℕ) → List (Row Op) → Parsed Op
-  rowAt s at opcode [] = faulty UnknownOpcode
-  rowAt s at opcode (k ⇒ operands ∷ rows) = cond (eqb opcode k) (operandsAt s at operands) (rowAt s at opcode rows)
+  -- the operands of an opcode
+  unfoldable pub lookedUp : (opcode : ℕ) → List (Row Op) → Option (Operands Op)
+  lookedUp opcode [] = none
+  lookedUp opcode (k ⇒ operands ∷ rows) = cond (eqb opcode k) (some operands) (lookedUp opcode rows)
+
+  -- those of a byte
+  abbrev pub operandsOf : ((imm : ℕ) → List (Row Op)) → (byte : ℕ) → Option (Operands Op)
+  operandsOf table byte = lookedUp (byte / 16 * 16) (table (byte % 16))
+
+  -- the operation that they make, of the bytes at a place
+  abbrev pub foundAt : List ℕ → ℕ → Option (Operands Op) → Parsed Op
+  foundAt s at none = faulty UnknownOpcode
+  foundAt s at (some operands) = operandsAt s at operands
 
   unfoldable pub operationAt : ((imm : ℕ) → List (Row Op)) → List ℕ → ℕ → Parsed Op
-  operationAt table s at =
-      cond (ltb at (length s))
-      (rowAt s (at + 1) (getD s at 0 / 16 * 16) (table (getD s at 0 % 16)))
-      noBytes
+  operationAt table s at = cond (ltb at (length s)) (foundAt s (at + 1) (operandsOf table (getD s at 0))) noBytes

@@ -3,6 +3,7 @@ pub mod Verdicts
 pub mod Flights
 pub mod Loops
 pub mod Faults
+pub mod Local
 pub mod Machines
 pub mod Unique
 pub mod Agrees

@@ -4,12 +4,12 @@ use mathlib.Core.Path.{refl}
 use Rattle.numbers.proofs.Then.{reads}
 use Rattle.operations.proofs.Rows.{no-byte, has-row, has-no-row}
 use Rattle.operations.specs.Loader.{rebaseTable}
-use Rattle.operations.specs.Table.{rowAt}
+use Rattle.operations.specs.Table.{lookedUp}
 use Rattle.operations.proofs.rebase_operation.RebaseOperation.parse.Statement.{statement}
 use Rattle.operations.proofs.rebase_operation.RebaseOperation.parse.Tie as tie
 
 pub parse-spec : {M : Type 1} → statement M
-unfolding rowAt
+unfolding lookedUp
 parse-spec =
     tie.close
     (tie.spec
