@@ -32,7 +32,7 @@ use Rattle.pages.proofs.Kept.{out-of-range}
 use Rattle.pages.proofs.Typed.{Typed, TypedFixing, typed-begin, typed-call, typed-item}
 use Rattle.pages.specs.Call.{begin, outOfRange, call}
 use Rattle.pages.specs.ChainedPointers.{Fixing, rebase, bind, Fixed, fixed}
-use Rattle.pages.specs.Listing.{listing}
+use Rattle.pages.specs.Listing.{listing, heard}
 use Rattle.pages.specs.declared.PageWalk.{PageWalk}
 use Rattle.runs.specs.Runs.{begun, item, mapped, Walks}
 
@@ -152,7 +152,7 @@ begins-told s b short w t {g} e = begins-by s g (chains.typed-segment s b short 
 module _ (s contents : List ℕ) where
   -- a start by a record gives a state whose fields are such as their types have, and calls from there on say what is listed
   begins : length contents < 2 ^ 64 → (segment : List ℕ) (base : ℕ) → base < 2 ^ 64 → {w : PageWalk} → beginAt s segment base ≡ begun w →
-      Typed w × Walks (call s contents) w (listing s contents (segmentAt segment) base)
+      Typed w × Walks (call s contents) w (heard (listing s contents (segmentAt segment) base))
   begins short segment base h {w} e =
       let b = record-begun s segment base e in
       let t = segment-typed segment (at-most segmentFields segment (b .0)) in
@@ -162,7 +162,7 @@ module _ (s contents : List ℕ) where
   pub calls-list : length contents < 2 ^ 64 → (segment : List ℕ) (base : ℕ) → base < 2 ^ 64 → {w : PageWalk} → beginAt s segment base ≡ begun w →
       (state told : List ℕ) → length state ≡ 128 → length told ≡ 40 →
       Walks (through states items (call s contents)) (lent (started states state (beginAt s segment base) .1) told)
-      (recorded items (listing s contents (segmentAt segment) base))
+      (recorded items (heard (listing s contents (segmentAt segment) base)))
   calls-list short segment base h e =
       let b = begins short segment base h e in
       started-say states items Typed faithful long (call s contents) (typed-call s contents) e (b .0) (b .1)
@@ -173,7 +173,8 @@ module _ (s contents : List ℕ) where
 
   -- so the records of all tell what the chains list
   pub listing-back : length contents < 2 ^ 64 → (segment : List ℕ) (base : ℕ) → base < 2 ^ 64 → {w : PageWalk} → beginAt s segment base ≡ begun w →
-      mapped itemAt (recorded items (listing s contents (segmentAt segment) base)) ≡ listing s contents (segmentAt segment) base
+      mapped itemAt (recorded items (heard (listing s contents (segmentAt segment) base)))
+      ≡ heard (listing s contents (segmentAt segment) base)
   listing-back short segment base h e =
       let b = begins short segment base h e in
       records-back states items Typed faithful long (call s contents) (typed-call s contents) itemAt (λ w t x v. items-back w t) (b .1) (b .0)

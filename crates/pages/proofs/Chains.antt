@@ -15,8 +15,8 @@ use Rattle.numbers.specs.LittleEndian.{fieldAt}
 use Rattle.numbers.specs.Then.{thenNumber}
 use Rattle.numbers.specs.declared.Number.{Number}
 use Rattle.numbers.specs.declared.Number.the-variants.{Value, Fault}
-use Rattle.pages.specs.ChainedPointers.{isNarrow, widthOf, fixingOf, nextOf, Fixed, fixed}
-use Rattle.pages.specs.Listing.{outside, following, chainIn, chain}
+use Rattle.pages.specs.ChainedPointers.{isNarrow, widthOf, fixingOf, nextOf, fixed}
+use Rattle.pages.specs.Listing.{Page, Entry, entry, outside, following, chainIn, chain}
 use Rattle.runs.specs.Runs.{Run, stops, gives}
 
 -- a pointer has bytes
@@ -27,48 +27,55 @@ has-width format = by (isNarrow format)
     by true = omega arith
     by false = omega arith
 
-module _ (s d : List ℕ) (g : Segment) (base : ℕ) where
+module _ (s d : List ℕ) (g : Segment) (base : ℕ) (p : Page) where
   -- what follows the read of a pointer, with what lists the rest of its chain
-  abbrev Behind : (rest : ℕ → Run Fixed) (place : ℕ) → Number → Run Fixed
+  abbrev Behind : (rest : ℕ → Run Entry) (place : ℕ) → Number → Run Entry
   Behind rest place x =
-      thenNumber x outside (λ n after. gives (fixed place (fixingOf (g .format) base n)) (following rest place (nextOf (g .format) n)))
+      thenNumber x outside
+      (λ n after.
+      gives (entry p (fixed place (fixingOf (g .format) base n))) (following rest place (nextOf (g .format) n)))
 
   no-pointer : (place : ℕ) → length d ≤ place → fieldAt (widthOf (g .format)) d place ≡ Fault
   no-pointer place h = field-out (widthOf (g .format)) d place (omega (arith, has-width (g .format)))
 
   -- what lists alike, lists the rest alike
-  by-read : (rest more : ℕ → Run Fixed) (place : ℕ) → ((next : ℕ) → (next ≡ 0 → ⊥) → rest (place + next) ≡ more (place + next)) → (x : Number) →
+  by-read : (rest more : ℕ → Run Entry) (place : ℕ) →
+      ((next : ℕ) → (next ≡ 0 → ⊥) → rest (place + next) ≡ more (place + next)) → (x : Number) →
       Behind rest place x ≡ Behind more place x
   unfolding thenNumber
   by-read rest more place h Fault = refl
-  by-read rest more place h (Value n after) = ap (gives (fixed place (fixingOf (g .format) base n))) (by-next (nextOf (g .format) n) (eqb (nextOf (g .format) n) 0) refl)
+  by-read rest more place h (Value n after) =
+      ap (gives (entry p (fixed place (fixingOf (g .format) base n))))
+      (by-next (nextOf (g .format) n) (eqb (nextOf (g .format) n) 0) refl)
     where
       by-next : (next : ℕ) (t : Bool) → eqb next 0 ≡ t → cond t stops (rest (place + next)) ≡ cond t stops (more (place + next))
       by-next next true e = refl
       by-next next false e = h next (eqb-false next 0 e)
 
   -- more pointers than bytes there are not
-  enough : (k place : ℕ) → length d ≤ place + k → chainIn s d g base k place ≡ chainIn s d g base (suc k) place
+  enough : (k place : ℕ) → length d ≤ place + k → chainIn s d g base p k place ≡ chainIn s d g base p (suc k) place
   unfolding chainIn thenNumber
-  enough zero place h = sym (ap (Behind (chainIn s d g base 0) place) (no-pointer place (omega arith)))
+  enough zero place h = sym (ap (Behind (chainIn s d g base p 0) place) (no-pointer place (omega arith)))
   enough (suc k) place h =
-      by-read (chainIn s d g base k) (chainIn s d g base (suc k)) place
+      by-read (chainIn s d g base p k) (chainIn s d g base p (suc k)) place
       (λ next n. enough k (place + next) (omega (arith, h, n))) (fieldAt (widthOf (g .format)) d place)
 
   -- a chain is its first pointer, and then the chain from the next on
-  pub chain-by : (place : ℕ) → chain s d g base place ≡ Behind (chain s d g base) place (fieldAt (widthOf (g .format)) d place)
+  pub chain-by : (place : ℕ) →
+      chain s d g base p place ≡ Behind (chain s d g base p) place (fieldAt (widthOf (g .format)) d place)
   unfolding chain chainIn
   chain-by place = enough (length d) place (omega arith)
 
-  pub chain-out : (place : ℕ) → length d ≤ place → chain s d g base place ≡ outside
+  pub chain-out : (place : ℕ) → length d ≤ place → chain s d g base p place ≡ outside
   unfolding thenNumber
-  chain-out place h = chain-by place ∙ ap (Behind (chain s d g base) place) (no-pointer place h)
+  chain-out place h = chain-by place ∙ ap (Behind (chain s d g base p) place) (no-pointer place h)
 
   -- no chain goes on at an offset that a u64 has not
-  pub chain-far : length d < 2 ^ 64 → (place : ℕ) → chain s d g base (min place (2 ^ 64 - 1)) ≡ chain s d g base place
+  pub chain-far : length d < 2 ^ 64 → (place : ℕ) →
+      chain s d g base p (min place (2 ^ 64 - 1)) ≡ chain s d g base p place
   chain-far l place =
       elim (decLe place (2 ^ 64 - 1)) [
-        | yes h ↦ ap (chain s d g base) (min-eq-left h)
+        | yes h ↦ ap (chain s d g base p) (min-eq-left h)
         | no h ↦ chain-out (min place (2 ^ 64 - 1)) (rw (min-eq-right {n = 2 ^ 64 - 1} {m = place} (omega arith)) (omega arith))
             ∙ sym (chain-out place (omega arith))
       ]

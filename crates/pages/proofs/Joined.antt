@@ -16,10 +16,10 @@ use Rattle.pages.proofs.Answers.{by-call}
 use Rattle.pages.proofs.Moves.{origin-within}
 use Rattle.pages.specs.Call.{startsOut, atStart, begin, onward, farthest, outOfRange, call}
 use Rattle.pages.specs.ChainedPointers.{isFormat, nextOf, Fixed}
-use Rattle.pages.specs.Listing.{pages, listing}
+use Rattle.pages.specs.Listing.{pages, listing, heard}
 use Rattle.pages.specs.declared.PageWalk.{PageWalk}
 use Rattle.runs.proofs.Walks.{Stays, walks-ahead, walks-one}
-use Rattle.runs.specs.Runs.{Begin, begun, notBegun, Run, fails, Walks}
+use Rattle.runs.specs.Runs.{Begin, begun, notBegun, Run, fails, mapped, Walks}
 
 module _ (s d : List ℕ) (short : length d < 2 ^ 64) where
   -- a walk that goes on: in range, and not ended
@@ -61,8 +61,8 @@ module _ (s d : List ℕ) (short : length d < 2 ^ 64) where
       (in-range w h) (h .live) h
 
   -- calls from any state that goes on, made up or not, say what it has still to list; so every walk ends
-  pub walks : (w : PageWalk) → Goes w → Walks (call s d) w (ahead s d w)
-  walks = walks-ahead (call s d) (ahead s d) Goes (λ w h. says s d short w (in-range w h) (h .live)) goes
+  pub walks : (w : PageWalk) → Goes w → Walks (call s d) w (heard (ahead s d w))
+  walks = walks-ahead (call s d) (λ w. heard (ahead s d w)) Goes (λ w h. says s d short w (in-range w h) (h .live)) goes
 
   -- ---- a start
 
@@ -73,10 +73,10 @@ module _ (s d : List ℕ) (short : length d < 2 ^ 64) where
 
     abbrev Starts : Begin PageWalk → Type 0
     Starts (begun w) = Begins w
-    Starts (notBegun n) = (n ≡ 19) ⊎ (listing s d g base ≡ fails n)
+    Starts (notBegun n) = (n ≡ 19) ⊎ (heard (listing s d g base) ≡ fails n)
 
     starts : Starts (begin s g base)
-    unfolding begin listing
+    unfolding begin listing mapped
     starts = by (startsOut g (length s)) (isFormat (g .format)) refl refl
       where
         by : (a b : Bool) → startsOut g (length s) ≡ a → isFormat (g .format) ≡ b → Starts (cond a (notBegun 19) (cond b (begun (atStart g base)) (notBegun 11)))
@@ -90,13 +90,16 @@ module _ (s d : List ℕ) (short : length d < 2 ^ 64) where
         by false false e f = inr (rw f)
 
     -- calls from a start on say what the chains list
-    pub joined : (w : PageWalk) → begin s g base ≡ begun w → Walks (call s d) w (listing s d g base)
-    joined w e = let b = subst Starts e starts in subst (Walks (call s d) w) (sym (b .all)) (walks w (b .going))
+    pub joined : (w : PageWalk) → begin s g base ≡ begun w → Walks (call s d) w (heard (listing s d g base))
+    joined w e =
+        let b = subst Starts e starts in
+        subst (Walks (call s d) w) (ap heard (sym (b .all))) (walks w (b .going))
 
     -- and nothing else
-    pub joined-only : (w : PageWalk) {r : Run Fixed} → begin s g base ≡ begun w → Walks (call s d) w r → r ≡ listing s d g base
+    pub joined-only : (w : PageWalk) {r : Run Fixed} → begin s g base ≡ begun w → Walks (call s d) w r →
+        r ≡ heard (listing s d g base)
     joined-only w e h = walks-one (call s d) h (joined w e)
 
     -- a start is refused for its record, 19, or the listing is that refusal
-    pub not-begun : {n : ℕ} → begin s g base ≡ notBegun n → (n ≡ 19) ⊎ (listing s d g base ≡ fails n)
+    pub not-begun : {n : ℕ} → begin s g base ≡ notBegun n → (n ≡ 19) ⊎ (heard (listing s d g base) ≡ fails n)
     not-begun e = subst Starts e starts

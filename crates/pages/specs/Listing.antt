@@ -1,5 +1,6 @@
--- What the chains of a segment list: every fixup, page by page and chain by chain, each with its place in the segment; and how that ends. `s`
--- are the bytes of the chained fixups, `d` those of the segment.
+-- What the chains of a segment list: every fixup, page by page and chain by chain, each with its place in the segment
+-- and the page that its chain was reached from; how that ends; and what of it a caller hears. `s` are the bytes of the
+-- chained fixups, `d` those of the segment.
 use Prim.Native.Nat.{ℕ, zero, suc, _+_, _-_, _*_}
 use mathlib.Core.Bool.{cond}
 use mathlib.Core.List.{List}
@@ -11,49 +12,71 @@ use Rattle.numbers.specs.Then.{thenNumber}
 use Rattle.pages.specs.ChainedPointers.{startAt, isNone, isMarked, unmarked, isFormat, widthOf, fixingOf, nextOf, Fixed, fixed}
 use Rattle.refusal.specs.Numbers.{numberOf}
 use Rattle.refusal.specs.declared.Refusal.the-variants.{UnsupportedFormat, BeyondStarts, PointerOutside}
-use Rattle.runs.specs.Runs.{Run, stops, fails, gives, _then_}
+use Rattle.runs.specs.Runs.{Run, stops, fails, gives, _then_, mapped}
 
-abbrev pub outside : Run Fixed
+-- a page: its index, and its offset in the segment
+pub record Page : Type 0 where
+  pub index : ℕ
+  pub origin : ℕ
+
+abbrev pub pageAt : Segment → (index : ℕ) → Page
+pageAt g index = record { index = index; origin = index * g .size }
+
+-- a fixup, and the page that its chain was reached from, also where the chain runs on beyond that page
+pub record Entry : Type 0 where
+  pub page : Page
+  pub fixed : Fixed
+
+abbrev pub entry : Page → Fixed → Entry
+entry p x = record { page = p; fixed = x }
+
+abbrev pub outside : Run Entry
 outside = fails (numberOf PointerOutside)
 
-abbrev pub beyond : Run Fixed
+abbrev pub beyond : Run Entry
 beyond = fails (numberOf BeyondStarts)
 
 -- what follows a pointer at a place: nothing, or the rest of its chain, from the pointer that is `next` bytes after it
-abbrev pub following : (rest : ℕ → Run Fixed) (place next : ℕ) → Run Fixed
+abbrev pub following : (rest : ℕ → Run Entry) (place next : ℕ) → Run Entry
 following rest place next = cond (eqb next 0) stops (rest (place + next))
 
 module _ (s d : List ℕ) (g : Segment) (base : ℕ) where
-  -- so many pointers at most
-  unfoldable pub chainIn : (most place : ℕ) → Run Fixed
-  chainIn zero place = outside
-  chainIn (suc most) place =
+  -- so many pointers at most, of a chain that was reached from page p
+  unfoldable pub chainIn : (p : Page) (most place : ℕ) → Run Entry
+  chainIn p zero place = outside
+  chainIn p (suc most) place =
       thenNumber (fieldAt (widthOf (g .format)) d place) outside
-      (λ n after. gives (fixed place (fixingOf (g .format) base n)) (following (chainIn most) place (nextOf (g .format) n)))
+      (λ n after.
+      gives (entry p (fixed place (fixingOf (g .format) base n)))
+      (following (chainIn p most) place (nextOf (g .format) n)))
 
   -- a chain, from a pointer on. There are no more pointers than bytes (so none is cut off: `chain-by`, proofs/Chains.antt)
-  unfoldable pub chain : (place : ℕ) → Run Fixed
-  chain place = chainIn (length d) place
+  unfoldable pub chain : (p : Page) (place : ℕ) → Run Entry
+  chain p place = chainIn p (length d) place
 
-  -- the chains of a list, from an index on, where n starts are left; the page is at the origin
-  unfoldable pub chains : (n index origin : ℕ) → Run Fixed
-  chains zero index origin = beyond
-  chains (suc n) index origin =
+  -- the chains of a list, from an index on, where n starts are left
+  unfoldable pub chains : (p : Page) (n index : ℕ) → Run Entry
+  chains p zero index = beyond
+  chains p (suc n) index =
       thenNumber (startAt s g index) beyond
-      (λ start after. chain (origin + unmarked start) then cond (isMarked start) stops (chains n (index + 1) origin))
+      (λ start after. chain p (p .origin + unmarked start) then cond (isMarked start) stops (chains p n (index + 1)))
 
   -- a page by its start
-  unfoldable pub page : (origin start : ℕ) → Run Fixed
-  page origin start =
+  unfoldable pub page : (p : Page) (start : ℕ) → Run Entry
+  page p start =
       cond (isNone start) stops
-      (cond (isMarked start) (chains (g .count - unmarked start) (unmarked start) origin)
-      (chain (origin + start)))
+      (cond (isMarked start) (chains p (g .count - unmarked start) (unmarked start))
+      (chain p (p .origin + start)))
 
   -- n pages from an index on
-  unfoldable pub pages : (n index : ℕ) → Run Fixed
+  unfoldable pub pages : (n index : ℕ) → Run Entry
   pages zero index = stops
   pages (suc n) index =
-      thenNumber (startAt s g index) beyond (λ start after. page (index * g .size) start then pages n (index + 1))
+      thenNumber (startAt s g index) beyond (λ start after. page (pageAt g index) start then pages n (index + 1))
 
-  unfoldable pub listing : Run Fixed
+  unfoldable pub listing : Run Entry
   listing = cond (isFormat (g .format)) (pages (g .pages) 0) (fails (numberOf UnsupportedFormat))
+
+-- a listing as a caller hears it: of pages nothing is said
+abbrev pub heard : Run Entry → Run Fixed
+heard r = mapped (λ (e : Entry). e .fixed) r

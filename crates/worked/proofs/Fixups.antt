@@ -14,13 +14,18 @@ use Rattle.numbers.specs.Runs.{runTo}
 use Rattle.numbers.specs.Strings.{stringAt}
 use Rattle.numbers.specs.Then.{thenNumber, thenText}
 use Rattle.pages.specs.ChainedPointers.{startAt, wideFixing, narrowFixing, fixingOf, nextOf}
-use Rattle.pages.specs.Listing.{chainIn, chain, chains, page, pages, listing}
-use Rattle.runs.specs.Runs.{_then_}
-use Rattle.worked.specs.Fixups.{Sample, recordOf, samples, segmentBytes, segmentsSay, importBytes, importsSay}
+use Rattle.pages.specs.Listing.{chainIn, chain, chains, page, pages, listing, heard}
+use Rattle.runs.specs.Runs.{_then_, mapped}
+use Rattle.worked.specs.Fixups.{Sample, recordOf, samples, runsOn, eachItsOwn, segmentBytes, segmentsSay, importBytes, importsSay}
 
 fixups-list : map (λ (x : Sample). listing (x .starts) (x .bytes) (recordOf x) (x .base)) samples ≡ map (λ (x : Sample). x .says) samples
 unfolding fromDigits littleEndian fieldAt thenNumber startAt wideFixing narrowFixing fixingOf nextOf chainIn chain chains page pages listing _then_
 fixups-list = refl
+
+-- two that list differently, by their pages, and are heard alike
+heard-alike : heard (runsOn .says) ≡ heard (eachItsOwn .says)
+unfolding mapped
+heard-alike = refl
 
 segments-list : chained.listing segmentBytes ≡ segmentsSay
 unfolding fromDigits littleEndian fieldAt thenNumber headerAt thenHeader thenStarts recordAt segments chained.listing

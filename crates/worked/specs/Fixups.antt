@@ -7,23 +7,39 @@ use Rattle.chains.specs.Listing.{Entry, segment, refusal}
 use Rattle.chains.specs.declared.Segment.{Segment}
 use Rattle.imports.specs.declared.Import.{Import}
 use Rattle.pages.specs.ChainedPointers.{rebase, bind, Fixed, fixed}
+use Rattle.pages.specs.Listing as fixups
 use Rattle.runs.specs.Runs.{Run, stops, fails, gives}
 
 -- ---- the fixups of a segment
 
--- the bytes of the starts and of the segment, how many starts there are, the format, the preferred address, and what is listed
+-- the bytes of the starts and of the segment, the number of pages and their size, how many starts there are, the
+-- format, the preferred address, and what is listed
 pub record Sample : Type 0 where
   pub starts : List ℕ
   pub bytes : List ℕ
+  pub pages : ℕ
+  pub size : ℕ
   pub count : ℕ
   pub format : ℕ
   pub base : ℕ
-  pub says : Run Fixed
+  pub says : Run fixups.Entry
 
--- the record of a segment with one page
 abbrev pub recordOf : Sample → Segment
 recordOf x =
-    record { index = 0; size = 0x1000; format = x .format; offset = 0; limit = 0; pages = 1; place = 0; count = x .count }
+    record {
+      index = 0;
+      size = x .size;
+      format = x .format;
+      offset = 0;
+      limit = 0;
+      pages = x .pages;
+      place = 0;
+      count = x .count;
+    }
+
+-- reached from the page of an index, which is at an offset in the segment
+abbrev pub of : (index origin : ℕ) → Fixed → fixups.Entry
+of index origin x = fixups.entry (record { index = index; origin = origin }) x
 
 -- a list of two chains, at 0 and at 4; each has its second pointer eight bytes behind the first
 abbrev pub interleaved : Sample
@@ -32,19 +48,46 @@ interleaved =
       starts = 0x01 ∷ 0x80 ∷ 0x00 ∷ 0x00 ∷ 0x04 ∷ 0x80 ∷ [];
       bytes =
           0x10 ∷ 0x00 ∷ 0x00 ∷ 0x08 ∷ 0x01 ∷ 0x00 ∷ 0x30 ∷ 0x88 ∷ 0x20 ∷ 0x00 ∷ 0x00 ∷ 0x00 ∷ 0xff ∷ 0xff ∷ 0xff ∷ 0x83 ∷ [];
+      pages = 1;
+      size = 0x1000;
       count = 3;
       format = 3;
       base = 0x10;
-      says = gives (fixed 0 (rebase 0)) (gives (fixed 8 (rebase 0x10)) (gives (fixed 4 (bind 1 3)) (gives (fixed 12 (bind 0xfffff 0x3f)) stops)));
+      says =
+          gives (of 0 0 (fixed 0 (rebase 0)))
+          (gives (of 0 0 (fixed 8 (rebase 0x10)))
+          (gives (of 0 0 (fixed 4 (bind 1 3)))
+          (gives (of 0 0 (fixed 12 (bind 0xfffff 0x3f)))
+          stops)));
     }
 
 -- a list of chains that starts where the starts end
 abbrev pub beyondList : Sample
-beyondList = record { starts = 0x01 ∷ 0x80 ∷ []; bytes = []; count = 1; format = 2; base = 0; says = fails 12 }
+beyondList =
+    record {
+      starts = 0x01 ∷ 0x80 ∷ [];
+      bytes = [];
+      pages = 1;
+      size = 0x1000;
+      count = 1;
+      format = 2;
+      base = 0;
+      says = fails 12;
+    }
 
 -- a page that has no chain, though its start has the mark of a list
 abbrev pub noChain : Sample
-noChain = record { starts = 0xff ∷ 0xff ∷ []; bytes = []; count = 1; format = 2; base = 0; says = stops }
+noChain =
+    record {
+      starts = 0xff ∷ 0xff ∷ [];
+      bytes = [];
+      pages = 1;
+      size = 0x1000;
+      count = 1;
+      format = 2;
+      base = 0;
+      says = stops;
+    }
 
 -- a list that is the page's own start: index 0, and there offset 0 and the mark of the last chain
 abbrev pub ownList : Sample
@@ -52,20 +95,69 @@ ownList =
     record {
       starts = 0x00 ∷ 0x80 ∷ [];
       bytes = 0x10 ∷ 0x00 ∷ 0x00 ∷ 0x00 ∷ [];
+      pages = 1;
+      size = 0x1000;
       count = 1;
       format = 3;
       base = 0;
-      says = gives (fixed 0 (rebase 0x10)) stops;
+      says = gives (of 0 0 (fixed 0 (rebase 0x10))) stops;
     }
 
 -- a pointer of eight bytes in seven
 abbrev pub onePast : Sample
-onePast = record { starts = 0x00 ∷ 0x00 ∷ []; bytes = 0x10 ∷ 0x00 ∷ 0x00 ∷ 0x00 ∷ 0x20 ∷ 0x01 ∷ 0x00 ∷ []; count = 1; format = 2; base = 0; says = fails 13 }
+onePast =
+    record {
+      starts = 0x00 ∷ 0x00 ∷ [];
+      bytes = 0x10 ∷ 0x00 ∷ 0x00 ∷ 0x00 ∷ 0x20 ∷ 0x01 ∷ 0x00 ∷ [];
+      pages = 1;
+      size = 0x1000;
+      count = 1;
+      format = 2;
+      base = 0;
+      says = fails 13;
+    }
 
 -- in eight: high8 is 0x12, the target 0x10
 abbrev pub high : (format base target : ℕ) → Sample
 high format base target =
-    record { starts = 0x00 ∷ 0x00 ∷ []; bytes = 0x10 ∷ 0x00 ∷ 0x00 ∷ 0x00 ∷ 0x20 ∷ 0x01 ∷ 0x00 ∷ 0x00 ∷ []; count = 1; format = format; base = base; says = gives (fixed 0 (rebase target)) stops }
+    record {
+      starts = 0x00 ∷ 0x00 ∷ [];
+      bytes = 0x10 ∷ 0x00 ∷ 0x00 ∷ 0x00 ∷ 0x20 ∷ 0x01 ∷ 0x00 ∷ 0x00 ∷ [];
+      pages = 1;
+      size = 0x1000;
+      count = 1;
+      format = format;
+      base = base;
+      says = gives (of 0 0 (fixed 0 (rebase target))) stops;
+    }
+
+-- two pages of eight bytes, of which the second has no chain: that of the first runs on into it, from 4 to 8
+abbrev pub runsOn : Sample
+runsOn =
+    record {
+      starts = 0x04 ∷ 0x00 ∷ 0xff ∷ 0xff ∷ [];
+      bytes = 0x00 ∷ 0x00 ∷ 0x00 ∷ 0x00 ∷ 0x10 ∷ 0x00 ∷ 0x00 ∷ 0x04 ∷ 0x20 ∷ 0x00 ∷ 0x00 ∷ 0x00 ∷ [];
+      pages = 2;
+      size = 8;
+      count = 2;
+      format = 3;
+      base = 0;
+      says = gives (of 0 0 (fixed 4 (rebase 0x10))) (gives (of 0 0 (fixed 8 (rebase 0x20))) stops);
+    }
+
+-- a chain of its own for each of the two: a caller hears the same
+abbrev pub eachItsOwn : Sample
+eachItsOwn =
+    record {
+      starts = 0x04 ∷ 0x00 ∷ 0x00 ∷ 0x00 ∷ [];
+      bytes = 0x00 ∷ 0x00 ∷ 0x00 ∷ 0x00 ∷ 0x10 ∷ 0x00 ∷ 0x00 ∷ 0x00 ∷ 0x20 ∷ 0x00 ∷ 0x00 ∷ 0x00 ∷ [];
+      pages = 2;
+      size = 8;
+      count = 2;
+      format = 3;
+      base = 0;
+      says = gives (of 0 0 (fixed 4 (rebase 0x10))) (gives (of 1 8 (fixed 8 (rebase 0x20))) stops);
+    }
 
 -- the base is the target, the target is below it, and the base is none
 abbrev pub samples : List Sample
@@ -78,6 +170,8 @@ samples =
     ∷ high 2 0x10 0x1200000000000000
     ∷ high 2 0x20 (2 ^ 64 - 0x10)
     ∷ high 6 0x20 0x1200000000000010
+    ∷ runsOn
+    ∷ eachItsOwn
     ∷ []
 
 -- ---- segments
