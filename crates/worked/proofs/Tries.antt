@@ -23,6 +23,6 @@ unfolding row ulebAt stringAt runTo fromDigits partOf thenNumber thenText regula
 tries-list = refl
 
 -- and calls say it, with these limits as with any (crates/trie/proofs/Joined.antt)
-tries-call : map (λ (x : Sample). calls (x .bytes) atStart (replicate (x .room) 0) (1 ∷ 0 ∷ 1 ∷ 300 ∷ 7 ∷ 300 ∷ [])) samples ≡ map (λ (x : Sample). x .says) samples
+tries-call : map (λ (x : Sample). calls (x .bytes) atStart (replicate (x .room) 0) (1 ∷ 0 ∷ 1 ∷ 300 ∷ 7 ∷ 300 ∷ [])) (samples ++ rows) ≡ map (λ (x : Sample). x .says) (samples ++ rows)
 unfolding row ulebAt stringAt runTo fromDigits partOf thenNumber thenText regularAt stubAt reexportAt exportAt thenExport countedAt nodeAt edgeAt thenEdge thenNode childAt any topDown outOfRange stillOpen put visited visitChild onward visitRoot goOn call calls
 tries-call = refl
