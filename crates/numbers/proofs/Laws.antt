@@ -15,12 +15,12 @@ use Rattle.numbers.specs.Leb128.{ulebAt, slebAt}
 use Rattle.numbers.specs.Parts.{partOf}
 use Rattle.numbers.specs.Runs.{Run, run, unended, runTo}
 use Rattle.numbers.specs.Strings.{isNul, stringOf, stringAt}
-use Rattle.numbers.specs.declared.Number.{Number}
-use Rattle.numbers.specs.declared.Number.the-variants as number
 use Rattle.numbers.specs.declared.leb128.Gathered.{Gathered}
 use Rattle.numbers.specs.declared.leb128.Gathered.the-variants.{Few, Ten, Cut}
 use Rattle.numbers.specs.declared.leb128.Signed.{Signed}
 use Rattle.numbers.specs.declared.leb128.Signed.the-variants as signed
+use Rattle.numbers.specs.declared.leb128.Unsigned.{Unsigned}
+use Rattle.numbers.specs.declared.leb128.Unsigned.the-variants as unsigned
 use Rattle.numbers.specs.declared.strings.Text.{Text}
 use Rattle.numbers.specs.declared.strings.Text.the-variants as string
 use Rattle.numbers.proofs.Runs.{is-run, length-snoc}
@@ -51,9 +51,9 @@ pub record UlebRead (s : List ℕ) (at value next : ℕ) : Type 0 where
   pub within : Within s at next
   pub below : value < 2 ^ 64
 
-abbrev IfUleb : List ℕ → ℕ → Number → Type 0
-IfUleb s at (number.Value v next) = UlebRead s at v next
-IfUleb s at number.Fault = Unit {0}
+abbrev IfUleb : List ℕ → ℕ → Unsigned → Type 0
+IfUleb s at (unsigned.Value v next) = UlebRead s at v next
+IfUleb s at unsigned.Fault = Unit {0}
 
 module _ (s : List ℕ) (at : ℕ) where
   uleb-of : (y : Gathered) → gatheredAt s at ≡ y → IfUleb s at (ulebAt s at)
@@ -68,7 +68,7 @@ module _ (s : List ℕ) (at : ℕ) where
       ]
   uleb-of Cut f = subst (IfUleb s at) (cut-uleb s at refl f) tt
 
-  pub uleb-read : {r : Number} {v next : ℕ} → r ≡ ulebAt s at → r ≡ number.Value v next → UlebRead s at v next
+  pub uleb-read : {r : Unsigned} {v next : ℕ} → r ≡ ulebAt s at → r ≡ unsigned.Value v next → UlebRead s at v next
   uleb-read e f = subst (IfUleb s at) (sym e ∙ f) (uleb-of (gatheredAt s at) refl)
 
 -- ---- signed LEB128: a value is one of an i64

@@ -16,10 +16,11 @@ use Rattle.numbers.specs.LittleEndian.{littleEndian, fieldAt}
 use Rattle.numbers.specs.Parts.{partOf}
 use Rattle.numbers.specs.Runs.{Run, run, unended, before, runTo}
 use Rattle.numbers.specs.Strings.{isNul, stringOf, stringAt}
-use Rattle.numbers.specs.declared.Number.{Number}
 use Rattle.numbers.specs.declared.Number.the-variants as number
 use Rattle.numbers.specs.declared.leb128.Signed.{Signed}
 use Rattle.numbers.specs.declared.leb128.Signed.the-variants as signed
+use Rattle.numbers.specs.declared.leb128.Unsigned.{Unsigned}
+use Rattle.numbers.specs.declared.leb128.Unsigned.the-variants as unsigned
 use Rattle.numbers.specs.declared.strings.Text.{Text}
 use Rattle.numbers.specs.declared.strings.Text.the-variants as string
 use Rattle.numbers.proofs.Picks.{by-pick}
@@ -190,11 +191,11 @@ module _ {A : Type 0} (ends : ℕ → Bool) (of : Run → A) (s : List ℕ) (at 
 -- ---- LEB128: a number is decided by its bytes
 
 module _ (s : List ℕ) (at : ℕ) where
-  abbrev IfUleb : Number → Type 0
-  IfUleb (number.Value v next) = Decided (λ r. ulebAt r at) s next
-  IfUleb number.Fault = Unit {0}
+  abbrev IfUleb : Unsigned → Type 0
+  IfUleb (unsigned.Value v next) = Decided (λ r. ulebAt r at) s next
+  IfUleb unsigned.Fault = Unit {0}
 
-  pub uleb-local : {v next : ℕ} → ulebAt s at ≡ number.Value v next → Decided (λ r. ulebAt r at) s next
+  pub uleb-local : {v next : ℕ} → ulebAt s at ≡ unsigned.Value v next → Decided (λ r. ulebAt r at) s next
   unfolding ulebAt
   uleb-local e = subst IfUleb e (by-run isLast (ulebOf at) s at IfUleb (λ bs d. by-pick IfUleb (ltb (tenth bs) 2) _ _ d tt) tt)
 

@@ -3,11 +3,13 @@
 use Prim.Native.Nat.{ℕ}
 use mathlib.Core.Path.{_≡_, refl, sym, _∙_}
 use lib.IntN.{ℤ}
-use Rattle.numbers.specs.Then.{thenNumber, thenSigned, thenText}
+use Rattle.numbers.specs.Then.{thenNumber, thenUnsigned, thenSigned, thenText}
 use Rattle.numbers.specs.declared.Number.{Number}
 use Rattle.numbers.specs.declared.Number.the-variants as number
 use Rattle.numbers.specs.declared.leb128.Signed.{Signed}
 use Rattle.numbers.specs.declared.leb128.Signed.the-variants as signed
+use Rattle.numbers.specs.declared.leb128.Unsigned.{Unsigned}
+use Rattle.numbers.specs.declared.leb128.Unsigned.the-variants as unsigned
 use Rattle.numbers.specs.declared.strings.Text.{Text}
 use Rattle.numbers.specs.declared.strings.Text.the-variants as text
 
@@ -36,6 +38,24 @@ module _ {A B : Type 0} (R : A → B → Type 0) where
   unfolding thenNumber
   both-numbers (number.Value v next) e go d to p q = q v next refl
   both-numbers number.Fault e go d to p q = p
+
+module _ {A : Type 0} (x : Unsigned) (faulty : A) (go : ℕ → ℕ → A) where
+  module _ {r : Unsigned} (e : r ≡ x) where
+    pub unsigned-read : {v next : ℕ} {y : A} → r ≡ unsigned.Value v next → y ≡ go v next → y ≡ thenUnsigned x faulty go
+    unfolding thenUnsigned
+    unsigned-read f q = rw (sym e ∙ f) q
+
+    pub unsigned-faulty : {y : A} → r ≡ unsigned.Fault → y ≡ faulty → y ≡ thenUnsigned x faulty go
+    unfolding thenUnsigned
+    unsigned-faulty f q = rw (sym e ∙ f) q
+
+  pub by-unsigned : (P : A → Type 0) → P faulty → ((v next : ℕ) → x ≡ unsigned.Value v next → P (go v next)) → P (thenUnsigned x faulty go)
+  unfolding thenUnsigned
+  by-unsigned P bad h = by x h
+    where
+      by : (y : Unsigned) → ((v next : ℕ) → y ≡ unsigned.Value v next → P (go v next)) → P (thenUnsigned y faulty go)
+      by (unsigned.Value v next) g = g v next refl
+      by unsigned.Fault g = bad
 
 module _ {A : Type 0} (x : Signed) (faulty : A) (go : ℤ → ℕ → A) where
   module _ {r : Signed} (e : r ≡ x) where
@@ -73,4 +93,4 @@ module _ {A : Type 0} (x : Text) (faulty : A) (go : ℕ → ℕ → ℕ → A) w
       by (text.Found start len next) g = g start len next refl
       by text.Fault g = bad
 
-pub ruleset reads = (number-read, number-faulty, signed-read, signed-faulty, text-read, text-faulty)
+pub ruleset reads = (number-read, number-faulty, unsigned-read, unsigned-faulty, signed-read, signed-faulty, text-read, text-faulty)

@@ -9,10 +9,10 @@ use lib.IntN.{ℤ, pos, _-ℤ_}
 use lib.ListN.{length, getD, drop}
 use Rattle.numbers.specs.Digits.{fromDigits}
 use Rattle.numbers.specs.Runs.{Run, run, unended, runTo}
-use Rattle.numbers.specs.declared.Number.{Number}
-use Rattle.numbers.specs.declared.Number.the-variants as number
 use Rattle.numbers.specs.declared.leb128.Signed.{Signed}
 use Rattle.numbers.specs.declared.leb128.Signed.the-variants as signed
+use Rattle.numbers.specs.declared.leb128.Unsigned.{Unsigned}
+use Rattle.numbers.specs.declared.leb128.Unsigned.the-variants as uleb
 
 -- ---- the bytes of a number
 
@@ -34,11 +34,11 @@ tenth bs = getD bs 9 0
 abbrev pub unsigned : List ℕ → ℕ
 unsigned bs = fromDigits 128 (chunks bs)
 
-abbrev pub ulebOf : ℕ → Run → Number
-ulebOf at (run bs) = cond (ltb (tenth bs) 2) (number.Value (unsigned bs) (at + length bs)) number.Fault
-ulebOf at unended = number.Fault
+abbrev pub ulebOf : ℕ → Run → Unsigned
+ulebOf at (run bs) = cond (ltb (tenth bs) 2) (uleb.Value (unsigned bs) (at + length bs)) uleb.Fault
+ulebOf at unended = uleb.Fault
 
-unfoldable pub ulebAt : List ℕ → ℕ → Number
+unfoldable pub ulebAt : List ℕ → ℕ → Unsigned
 ulebAt s at = ulebOf at (bytesAt s at)
 
 -- ---- signed: the sign of the last chunk is extended, and a tenth byte is the sign alone

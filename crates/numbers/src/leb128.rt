@@ -4,7 +4,12 @@ ghost use Prim.Native.Nat.{_<_, _^_};
 ghost use lib.IntN.{pos, negsuc};
 ghost use Rattle.numbers.specs.Gathered.{gatheredAt};
 ghost use Rattle.numbers.specs.Leb128.{ulebAt, slebAt};
-use crate::Number;
+
+// An unsigned number and the place behind it.
+pub enum Unsigned {
+    Value(u64, usize),
+    Fault,
+}
 
 // A signed number and the place behind it.
 pub enum Signed {
@@ -13,7 +18,7 @@ pub enum Signed {
 }
 
 // The unsigned number at a place.
-pub fn read_uleb(s: &[u8], at: usize) -> Number
+pub fn read_uleb(s: &[u8], at: usize) -> Unsigned
     ensures { λ r. ⌜ r ≡ ulebAt (now (s .entry)) at ⌝ }
 {
     match gather(s, at) {
@@ -22,15 +27,15 @@ pub fn read_uleb(s: &[u8], at: usize) -> Number
             scale,
             last,
             next,
-        } => Number::Value(low + (last as u64) * scale, next),
+        } => Unsigned::Value(low + (last as u64) * scale, next),
         Gathered::Ten { low, last, next } => {
             if last < 2 {
-                Number::Value(low + (last as u64) * TENTH, next)
+                Unsigned::Value(low + (last as u64) * TENTH, next)
             } else {
-                Number::Fault
+                Unsigned::Fault
             }
         }
-        Gathered::Cut => Number::Fault,
+        Gathered::Cut => Unsigned::Fault,
     }
 }
 

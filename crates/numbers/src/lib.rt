@@ -5,7 +5,7 @@ pub mod little_endian;
 pub mod parts;
 pub mod strings;
 
-// A number and the place behind it.
+// A field's number and the place behind it.
 pub enum Number {
     Value(u64, usize),
     Fault,

@@ -6,7 +6,7 @@ use mathlib.Core.List.{List}
 use native.Mathlib.Omega.{arith}
 use lib.ListN.{length}
 use Rattle.numbers.proofs.Laws.{Within, uleb-read, sleb-read, string-read}
-use Rattle.numbers.proofs.Then.{by-number, by-signed, by-text}
+use Rattle.numbers.proofs.Then.{by-unsigned, by-signed, by-text}
 use Rattle.numbers.specs.Leb128.{ulebAt, slebAt}
 use Rattle.numbers.specs.Strings.{stringAt}
 use Rattle.refusal.proofs.Unique.{one-each}
@@ -38,11 +38,11 @@ module _ {Op : Type 0} (s : List ℕ) (at : ℕ) where
   if-operands : at < length s → (o : Operands Op) → IfRead (operandsAt s (at + 1) o)
   if-operands h (alone op) = record { beyond = omega arith; inside = omega arith }
   if-operands h (uleb make) =
-      by-number (ulebAt s (at + 1)) _ _ IfRead tt (λ v next e. further (omega arith) (uleb-read s (at + 1) (sym e) refl .within))
+      by-unsigned (ulebAt s (at + 1)) _ _ IfRead tt (λ v next e. further (omega arith) (uleb-read s (at + 1) (sym e) refl .within))
   if-operands h (ulebs make) =
-      by-number (ulebAt s (at + 1)) _ _ IfRead tt
+      by-unsigned (ulebAt s (at + 1)) _ _ IfRead tt
       (λ v next e. let w = uleb-read s (at + 1) (sym e) refl .within in
-      by-number (ulebAt s next) _ _ IfRead tt (λ u after f. further (omega (arith, w .beyond)) (uleb-read s next (sym f) refl .within)))
+      by-unsigned (ulebAt s next) _ _ IfRead tt (λ u after f. further (omega (arith, w .beyond)) (uleb-read s next (sym f) refl .within)))
   if-operands h (sleb make) =
       by-signed (slebAt s (at + 1)) _ _ IfRead tt (λ v next e. further (omega arith) (sleb-read s (at + 1) (sym e) refl .within))
   if-operands h (string make) =

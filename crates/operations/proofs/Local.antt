@@ -11,12 +11,12 @@ use lib.Dec.{ltb}
 use lib.ListN.{length, getD}
 use Rattle.numbers.proofs.Laws.{uleb-read, sleb-read, string-read}
 use Rattle.numbers.proofs.Local.{Decided, later, decides, decides-then, byte-local, below-local, uleb-local, sleb-local, string-local}
-use Rattle.numbers.proofs.Then.{by-number, by-signed, by-text}
+use Rattle.numbers.proofs.Then.{by-unsigned, by-signed, by-text}
 use Rattle.numbers.specs.Leb128.{ulebAt, slebAt}
 use Rattle.numbers.specs.Strings.{stringAt}
-use Rattle.numbers.specs.Then.{thenNumber, thenSigned, thenText}
-use Rattle.numbers.specs.declared.Number.{Number}
-use Rattle.numbers.specs.declared.Number.the-variants as number
+use Rattle.numbers.specs.Then.{thenUnsigned, thenSigned, thenText}
+use Rattle.numbers.specs.declared.leb128.Unsigned.{Unsigned}
+use Rattle.numbers.specs.declared.leb128.Unsigned.the-variants as unsigned
 use Rattle.refusal.specs.Numbers.{numberOf}
 use Rattle.refusal.specs.declared.Refusal.the-variants.{UnknownOpcode, FaultyOperand}
 use Rattle.operations.specs.Table.{Parsed, operation, faulty, noBytes, Operands, alone, uleb, ulebs, sleb, string, Row, operandsAt, operandsOf, foundAt, operationAt}
@@ -31,23 +31,23 @@ module _ {Op : Type 0} (s : List ℕ) where
 
   if-uleb : (at : ℕ) (make : ℕ → Op) → IfOperands at (uleb make) (operandsAt s at (uleb make))
   if-uleb at make =
-      by-number (ulebAt s at) _ _ (IfOperands at (uleb make)) refl
+      by-unsigned (ulebAt s at) _ _ (IfOperands at (uleb make)) refl
       (λ v next e. (
         omega (arith, uleb-read s at (sym e) refl .within .beyond),
-        decides (uleb-local s at e) (λ x. thenNumber x (faulty FaultyOperand) (λ v next. operation (make v) next)),
+        decides (uleb-local s at e) (λ x. thenUnsigned x (faulty FaultyOperand) (λ v next. operation (make v) next)),
       ))
 
   -- two numbers are one, and then another
-  abbrev second : (make : ℕ → ℕ → Op) → List ℕ → Number → Parsed Op
-  second make r x = thenNumber x (faulty FaultyOperand) (λ v next. operandsAt r next (uleb (make v)))
+  abbrev second : (make : ℕ → ℕ → Op) → List ℕ → Unsigned → Parsed Op
+  second make r x = thenUnsigned x (faulty FaultyOperand) (λ v next. operandsAt r next (uleb (make v)))
 
-  if-first : (at : ℕ) (make : ℕ → ℕ → Op) {v next : ℕ} → ulebAt s at ≡ number.Value v next → (x : Parsed Op) → IfOperands next (uleb (make v)) x →
+  if-first : (at : ℕ) (make : ℕ → ℕ → Op) {v next : ℕ} → ulebAt s at ≡ unsigned.Value v next → (x : Parsed Op) → IfOperands next (uleb (make v)) x →
       IfOperands at (ulebs make) x
-  unfolding thenNumber
+  unfolding thenUnsigned
   if-first at make {v} {next} e (operation op after) (h, d) = (
     omega (arith, uleb-read s at (sym e) refl .within .beyond),
     decides-then (second make) (later (uleb-local s at e) after h (d .inside))
-        (subst (λ (x : Number). Decided (λ r. second make r x) s after) (sym e) d),
+        (subst (λ (x : Unsigned). Decided (λ r. second make r x) s after) (sym e) d),
   )
   if-first at make e (faulty n) h = h
   if-first at make e noBytes h = h
@@ -56,7 +56,7 @@ module _ {Op : Type 0} (s : List ℕ) where
   if-operands at h (alone op) = (omega arith, record { inside = h; same = λ r e. refl })
   if-operands at h (uleb make) = if-uleb at make
   if-operands at h (ulebs make) =
-      by-number (ulebAt s at) _ _ (IfOperands at (ulebs make)) refl (λ v next e. if-first at make e (operandsAt s next (uleb (make v))) (if-uleb next (make v)))
+      by-unsigned (ulebAt s at) _ _ (IfOperands at (ulebs make)) refl (λ v next e. if-first at make e (operandsAt s next (uleb (make v))) (if-uleb next (make v)))
   if-operands at h (sleb make) =
       by-signed (slebAt s at) _ _ (IfOperands at (sleb make)) refl
       (λ v next e. (

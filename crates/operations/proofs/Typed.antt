@@ -9,7 +9,7 @@ use lib.ListN.{length}
 use mir.Syntax.{w32, w64}
 use mir.Val.{SFits}
 use Rattle.numbers.proofs.Laws.{uleb-read, sleb-read, string-read}
-use Rattle.numbers.proofs.Then.{by-number, by-signed, by-text}
+use Rattle.numbers.proofs.Then.{by-unsigned, by-signed, by-text}
 use Rattle.numbers.specs.Leb128.{ulebAt, slebAt}
 use Rattle.numbers.specs.Strings.{stringAt}
 use Rattle.operations.proofs.Cases.{Each, by-table}
@@ -31,12 +31,12 @@ module _ {Op : Type 0} (P : Op → Type 0) where
 
   module _ (s : List ℕ) (at : ℕ) where
     with-uleb : (make : ℕ → Op) → ((v : ℕ) → v < 2 ^ 64 → P (make v)) → IfTyped (operandsAt s at (uleb make))
-    with-uleb make h = by-number (ulebAt s at) _ _ IfTyped tt (λ v next e. h v (uleb-read s at (sym e) refl .below))
+    with-uleb make h = by-unsigned (ulebAt s at) _ _ IfTyped tt (λ v next e. h v (uleb-read s at (sym e) refl .below))
 
     with-ulebs : (make : ℕ → ℕ → Op) → ((v u : ℕ) → v < 2 ^ 64 → P (make v u)) → IfTyped (operandsAt s at (ulebs make))
     with-ulebs make h =
-        by-number (ulebAt s at) _ _ IfTyped tt
-        (λ v next e. by-number (ulebAt s next) _ _ IfTyped tt (λ u after f. h v u (uleb-read s at (sym e) refl .below)))
+        by-unsigned (ulebAt s at) _ _ IfTyped tt
+        (λ v next e. by-unsigned (ulebAt s next) _ _ IfTyped tt (λ u after f. h v u (uleb-read s at (sym e) refl .below)))
 
     with-sleb : (make : ℤ → Op) → ((z : ℤ) → SFits w64 z → P (make z)) → IfTyped (operandsAt s at (sleb make))
     with-sleb make h = by-signed (slebAt s at) _ _ IfTyped tt (λ z next e. h z (sleb-read s at (sym e) refl .fits))

@@ -9,7 +9,7 @@ use lib.IntN.{ℤ}
 use lib.ListN.{length, getD}
 use Rattle.numbers.specs.Leb128.{ulebAt, slebAt}
 use Rattle.numbers.specs.Strings.{stringAt}
-use Rattle.numbers.specs.Then.{thenNumber, thenSigned, thenText}
+use Rattle.numbers.specs.Then.{thenUnsigned, thenSigned, thenText}
 use Rattle.refusal.specs.declared.Refusal.{Refusal}
 use Rattle.refusal.specs.declared.Refusal.the-variants.{UnknownOpcode, FaultyOperand}
 
@@ -36,10 +36,10 @@ module _ {Op : Type 0} where
 
   abbrev pub operandsAt : List ℕ → ℕ → Operands Op → Parsed Op
   operandsAt s at (alone op) = operation op at
-  operandsAt s at (uleb make) = thenNumber (ulebAt s at) (faulty FaultyOperand) (λ v next. operation (make v) next)
+  operandsAt s at (uleb make) = thenUnsigned (ulebAt s at) (faulty FaultyOperand) (λ v next. operation (make v) next)
   operandsAt s at (ulebs make) =
-      thenNumber (ulebAt s at) (faulty FaultyOperand)
-      (λ v next. thenNumber (ulebAt s next) (faulty FaultyOperand) (λ u after. operation (make v u) after))
+      thenUnsigned (ulebAt s at) (faulty FaultyOperand)
+      (λ v next. thenUnsigned (ulebAt s next) (faulty FaultyOperand) (λ u after. operation (make v u) after))
   operandsAt s at (sleb make) = thenSigned (slebAt s at) (faulty FaultyOperand) (λ v next. operation (make v) next)
   operandsAt s at (string make) = thenText (stringAt s at) (faulty FaultyOperand) (λ start len next. operation (make start len) next)
 

@@ -7,8 +7,8 @@ ghost use Rattle.operations.specs.Told.{bindTold};
 ghost use Rattle.operations.specs.declared.bind_operation.BindOperation.the-variants.{SetSymbol, DoBindTimesSkipping};
 use crate::bind_operation::BindOperation as Op;
 use crate::bind_operation::BindParse as Parse;
-use numbers::Number;
 use numbers::leb128::Signed;
+use numbers::leb128::Unsigned;
 use numbers::leb128::read_sleb;
 use numbers::leb128::read_uleb;
 use numbers::strings::Text;
@@ -79,11 +79,11 @@ impl BindOperation {
                 Parse::Operation(Op::SetDylibOrdinal { ordinal }, at + 1)
             }
             2 => match read_uleb(s, at + 1) {
-                Number::Value(ordinal, next) => Parse::Operation(
+                Unsigned::Value(ordinal, next) => Parse::Operation(
                     Op::SetDylibOrdinal { ordinal },
                     next,
                 ),
-                Number::Fault => Parse::Refused(Refusal::FaultyOperand),
+                Unsigned::Fault => Parse::Refused(Refusal::FaultyOperand),
             },
             3 => {
                 let ordinal = special(imm);
@@ -96,20 +96,23 @@ impl BindOperation {
                 Signed::Fault => Parse::Refused(Refusal::FaultyOperand),
             },
             7 => match read_uleb(s, at + 1) {
-                Number::Value(offset, next) => Parse::Operation(
+                Unsigned::Value(offset, next) => Parse::Operation(
                     Op::SetSegmentAndOffset { index: imm, offset },
                     next,
                 ),
-                Number::Fault => Parse::Refused(Refusal::FaultyOperand),
+                Unsigned::Fault => Parse::Refused(Refusal::FaultyOperand),
             },
             8 => match read_uleb(s, at + 1) {
-                Number::Value(offset, next) => Parse::Operation(Op::AddAddr { offset }, next),
-                Number::Fault => Parse::Refused(Refusal::FaultyOperand),
+                Unsigned::Value(offset, next) => Parse::Operation(Op::AddAddr { offset }, next),
+                Unsigned::Fault => Parse::Refused(Refusal::FaultyOperand),
             },
             9 => Parse::Operation(Op::DoBind, at + 1),
             10 => match read_uleb(s, at + 1) {
-                Number::Value(offset, next) => Parse::Operation(Op::DoBindAddAddr { offset }, next),
-                Number::Fault => Parse::Refused(Refusal::FaultyOperand),
+                Unsigned::Value(offset, next) => Parse::Operation(
+                    Op::DoBindAddAddr { offset },
+                    next,
+                ),
+                Unsigned::Fault => Parse::Refused(Refusal::FaultyOperand),
             },
             11 => Parse::Operation(Op::DoBindAddAddrScaled { count: imm }, at + 1),
             12 => times_skipping(s, at + 1),
@@ -154,10 +157,10 @@ fn special(imm: u8) -> i32
 fn times_skipping(s: &[u8], at: usize) -> Parse
     ensures { λ r. ⌜ bindTold r ≡ operandsAt (now (s .entry)) at (ulebs DoBindTimesSkipping) ⌝ }
 {
-    let Number::Value(count, next) = read_uleb(s, at) else {
+    let Unsigned::Value(count, next) = read_uleb(s, at) else {
         return Parse::Refused(Refusal::FaultyOperand);
     };
-    let Number::Value(skip, after) = read_uleb(s, next) else {
+    let Unsigned::Value(skip, after) = read_uleb(s, next) else {
         return Parse::Refused(Refusal::FaultyOperand);
     };
     Parse::Operation(Op::DoBindTimesSkipping { count, skip }, after)

@@ -6,7 +6,7 @@ ghost use Rattle.operations.specs.Told.{rebaseTold};
 ghost use Rattle.operations.specs.declared.rebase_operation.RebaseOperation.the-variants.{DoRebaseTimesSkipping};
 use crate::rebase_operation::RebaseOperation as Op;
 use crate::rebase_operation::RebaseParse as Parse;
-use numbers::Number;
+use numbers::leb128::Unsigned;
 use numbers::leb128::read_uleb;
 use refusal::Refusal;
 
@@ -42,28 +42,28 @@ impl RebaseOperation {
             0 => Parse::Operation(Op::Done, at + 1),
             1 => Parse::Operation(Op::SetType { kind: imm }, at + 1),
             2 => match read_uleb(s, at + 1) {
-                Number::Value(offset, next) => Parse::Operation(
+                Unsigned::Value(offset, next) => Parse::Operation(
                     Op::SetSegmentAndOffset { index: imm, offset },
                     next,
                 ),
-                Number::Fault => Parse::Refused(Refusal::FaultyOperand),
+                Unsigned::Fault => Parse::Refused(Refusal::FaultyOperand),
             },
             3 => match read_uleb(s, at + 1) {
-                Number::Value(offset, next) => Parse::Operation(Op::AddAddr { offset }, next),
-                Number::Fault => Parse::Refused(Refusal::FaultyOperand),
+                Unsigned::Value(offset, next) => Parse::Operation(Op::AddAddr { offset }, next),
+                Unsigned::Fault => Parse::Refused(Refusal::FaultyOperand),
             },
             4 => Parse::Operation(Op::AddAddrScaled { count: imm }, at + 1),
             5 => Parse::Operation(Op::DoRebaseTimes { count: imm as u64 }, at + 1),
             6 => match read_uleb(s, at + 1) {
-                Number::Value(count, next) => Parse::Operation(Op::DoRebaseTimes { count }, next),
-                Number::Fault => Parse::Refused(Refusal::FaultyOperand),
+                Unsigned::Value(count, next) => Parse::Operation(Op::DoRebaseTimes { count }, next),
+                Unsigned::Fault => Parse::Refused(Refusal::FaultyOperand),
             },
             7 => match read_uleb(s, at + 1) {
-                Number::Value(offset, next) => Parse::Operation(
+                Unsigned::Value(offset, next) => Parse::Operation(
                     Op::DoRebaseAddAddr { offset },
                     next,
                 ),
-                Number::Fault => Parse::Refused(Refusal::FaultyOperand),
+                Unsigned::Fault => Parse::Refused(Refusal::FaultyOperand),
             },
             8 => times_skipping(s, at + 1),
             9..=255 => Parse::Refused(Refusal::UnknownOpcode),
@@ -75,10 +75,10 @@ impl RebaseOperation {
 fn times_skipping(s: &[u8], at: usize) -> Parse
     ensures { λ r. ⌜ rebaseTold r ≡ operandsAt (now (s .entry)) at (ulebs DoRebaseTimesSkipping) ⌝ }
 {
-    let Number::Value(count, next) = read_uleb(s, at) else {
+    let Unsigned::Value(count, next) = read_uleb(s, at) else {
         return Parse::Refused(Refusal::FaultyOperand);
     };
-    let Number::Value(skip, after) = read_uleb(s, next) else {
+    let Unsigned::Value(skip, after) = read_uleb(s, next) else {
         return Parse::Refused(Refusal::FaultyOperand);
     };
     Parse::Operation(Op::DoRebaseTimesSkipping { count, skip }, after)

@@ -9,7 +9,7 @@ use lib.Dec.{leb, ltb, eqb}
 use lib.ListN.{length, getD, take}
 use lib.Seq.{length-take-le}
 use Rattle.numbers.proofs.Laws.{uleb-read, string-read}
-use Rattle.numbers.proofs.Then.{by-number, by-text}
+use Rattle.numbers.proofs.Then.{by-unsigned, by-text}
 use Rattle.numbers.specs.Leb128.{ulebAt}
 use Rattle.numbers.specs.Strings.{stringAt}
 use Rattle.refusal.specs.Numbers.{numberOf}
@@ -65,7 +65,7 @@ module _ (s : List ℕ) where
       by-text (stringAt s at) _ _ (IfEdge s) tt
       (λ place len next f.
       let t = string-read s at (sym f) refl in
-      by-number (ulebAt s next) _ _ (IfEdge s) tt
+      by-unsigned (ulebAt s next) _ _ (IfEdge s) tt
       (λ offset behind g.
       let u = uleb-read s next (sym g) refl in
       record { next = u .within .inside; inside = omega (arith, t .ends, t .within .inside); offset = u .below }))
@@ -87,7 +87,7 @@ module _ (s : List ℕ) where
   node-by : (offset : ℕ) → IfNode s (nodeAt s offset)
   unfolding nodeAt
   node-by offset =
-      by-number (ulebAt s offset) _ _ (IfNode s) tt
+      by-unsigned (ulebAt s offset) _ _ (IfNode s) tt
       (λ size at f. none at (eqb size 0) _ (area at size (leb (at + size) (length s)) refl))
     where
       none : (at : ℕ) (b : Bool) (x : NodeRead) → IfNode s x → IfNode s (cond b (countedAt s terminal.NoExport at) x)

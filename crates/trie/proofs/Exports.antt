@@ -7,7 +7,7 @@ use lib.Dec.{leb}
 use lib.ListN.{length}
 use Rattle.numbers.proofs.Laws.{uleb-read, string-read}
 use Rattle.numbers.proofs.Picks.{by-pick}
-use Rattle.numbers.proofs.Then.{by-number, by-text}
+use Rattle.numbers.proofs.Then.{by-unsigned, by-text}
 use Rattle.numbers.specs.Leb128.{ulebAt}
 use Rattle.numbers.specs.Strings.{stringAt}
 use Rattle.trie.specs.Exported.{Target, regular, reexport, stubAndResolver, Exported, exportTold}
@@ -44,21 +44,21 @@ module _ (s : List ℕ) where
     regular-in : IfExport (length s) (regularAt s flags at)
     unfolding regularAt
     regular-in =
-        by-number (ulebAt s at) _ _ (IfExport (length s)) tt
+        by-unsigned (ulebAt s at) _ _ (IfExport (length s)) tt
         (λ address next f. record { flags = h; target = uleb-read s at (sym f) refl .below })
 
     stub-in : IfExport (length s) (stubAt s flags at)
     unfolding stubAt
     stub-in =
-        by-number (ulebAt s at) _ _ (IfExport (length s)) tt
+        by-unsigned (ulebAt s at) _ _ (IfExport (length s)) tt
         (λ stub next f.
-        by-number (ulebAt s next) _ _ (IfExport (length s)) tt
+        by-unsigned (ulebAt s next) _ _ (IfExport (length s)) tt
         (λ resolver behind g. record { flags = h; target = (uleb-read s at (sym f) refl .below, uleb-read s next (sym g) refl .below) }))
 
     reexport-in : IfExport (length s) (reexportAt s flags at)
     unfolding reexportAt
     reexport-in =
-        by-number (ulebAt s at) _ _ (IfExport (length s)) tt
+        by-unsigned (ulebAt s at) _ _ (IfExport (length s)) tt
         (λ ordinal next f.
         by-text (stringAt s next) _ _ (IfExport (length s)) tt
         (λ place len behind g.
@@ -68,7 +68,7 @@ module _ (s : List ℕ) where
   pub export-in : (at : ℕ) → IfExport (length s) (exportAt s at)
   unfolding exportAt
   export-in at =
-      by-number (ulebAt s at) _ _ (IfExport (length s)) tt
+      by-unsigned (ulebAt s at) _ _ (IfExport (length s)) tt
       (λ flags next f.
       let h = uleb-read s at (sym f) refl .below in
       by-pick (IfExport (length s)) (leb flags 0x3f) _ _

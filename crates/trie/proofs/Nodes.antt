@@ -9,8 +9,8 @@ use lib.Dec.{leb}
 use lib.ListN.{length, getD, take}
 use Rattle.numbers.proofs.Laws.{uleb-read}
 use Rattle.numbers.specs.Leb128.{ulebAt}
-use Rattle.numbers.specs.declared.Number.{Number}
-use Rattle.numbers.specs.declared.Number.the-variants.{Value}
+use Rattle.numbers.specs.declared.leb128.Unsigned.{Unsigned}
+use Rattle.numbers.specs.declared.leb128.Unsigned.the-variants.{Value}
 use Rattle.trie.specs.Child.{thenEdge, thenNode}
 use Rattle.trie.specs.ExportsTrie.{thenExport, exportAt, countedAt}
 use Rattle.trie.specs.declared.export.Export.{Export}
@@ -24,7 +24,7 @@ use Rattle.trie.specs.declared.node.NodeRead.{NodeRead}
 use Rattle.trie.specs.declared.node.NodeRead.the-variants as node
 use Rattle.trie.specs.declared.node.Terminal.{Terminal}
 
-module _ (s : List ℕ) (offset : ℕ) {r : Number} {size at : ℕ} (e : r ≡ ulebAt s offset) (f : r ≡ Value size at) where
+module _ (s : List ℕ) (offset : ℕ) {r : Unsigned} {size at : ℕ} (e : r ≡ ulebAt s offset) (f : r ≡ Value size at) where
   pub area-starts : at ≤ length s
   area-starts = uleb-read s offset e f .within .inside
 

@@ -9,7 +9,7 @@ use lib.Dec.{leb, ltb, eqb}
 use lib.ListN.{length, getD, take}
 use Rattle.numbers.specs.Leb128.{ulebAt}
 use Rattle.numbers.specs.Strings.{stringAt}
-use Rattle.numbers.specs.Then.{thenNumber, thenText}
+use Rattle.numbers.specs.Then.{thenUnsigned, thenText}
 use Rattle.trie.specs.declared.export.Export.{Export}
 use Rattle.trie.specs.declared.export.ExportData.{ExportData}
 use Rattle.trie.specs.declared.export.ExportData.the-variants.{Regular, Reexport, StubAndResolver}
@@ -31,16 +31,16 @@ abbrev pub exported : (flags : ℕ) → ExportData → ExportRead
 exported flags target = export.Read (record { flags = flags; target = target })
 
 unfoldable pub regularAt : List ℕ → (flags at : ℕ) → ExportRead
-regularAt s flags at = thenNumber (ulebAt s at) export.Fault (λ address next. exported flags (Regular address))
+regularAt s flags at = thenUnsigned (ulebAt s at) export.Fault (λ address next. exported flags (Regular address))
 
 unfoldable pub stubAt : List ℕ → (flags at : ℕ) → ExportRead
 stubAt s flags at =
-    thenNumber (ulebAt s at) export.Fault
-    (λ stub next. thenNumber (ulebAt s next) export.Fault (λ resolver behind. exported flags (StubAndResolver stub resolver)))
+    thenUnsigned (ulebAt s at) export.Fault
+    (λ stub next. thenUnsigned (ulebAt s next) export.Fault (λ resolver behind. exported flags (StubAndResolver stub resolver)))
 
 unfoldable pub reexportAt : List ℕ → (flags at : ℕ) → ExportRead
 reexportAt s flags at =
-    thenNumber (ulebAt s at) export.Fault
+    thenUnsigned (ulebAt s at) export.Fault
     (λ ordinal next. thenText (stringAt s next) export.Fault
     (λ place len behind. exported flags (Reexport (record { ordinal = ordinal; place = place; length = len }))))
 
@@ -48,7 +48,7 @@ reexportAt s flags at =
 -- follows. 0x3f has every bit that the header names
 unfoldable pub exportAt : List ℕ → ℕ → ExportRead
 exportAt s at =
-    thenNumber (ulebAt s at) export.Fault
+    thenUnsigned (ulebAt s at) export.Fault
     (λ flags next.
     cond (leb flags 0x3f)
     (cond (hasBit 0x08 flags) (reexportAt s flags next)
@@ -72,7 +72,7 @@ countedAt s t at =
 -- no byte of the export data lies behind the area: it is read in the bytes up to the area's end
 unfoldable pub nodeAt : List ℕ → (offset : ℕ) → NodeRead
 nodeAt s offset =
-    thenNumber (ulebAt s offset) node.Fault
+    thenUnsigned (ulebAt s offset) node.Fault
     (λ size at.
     cond (eqb size 0) (countedAt s terminal.NoExport at)
     (cond (leb (at + size) (length s))
@@ -84,5 +84,5 @@ nodeAt s offset =
 unfoldable pub edgeAt : List ℕ → ℕ → EdgeRead
 edgeAt s at =
     thenText (stringAt s at) edge.Fault
-    (λ place len next. thenNumber (ulebAt s next) edge.Fault
+    (λ place len next. thenUnsigned (ulebAt s next) edge.Fault
     (λ offset behind. edge.Found (record { place = place; length = len; offset = offset; next = behind })))

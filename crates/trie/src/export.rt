@@ -2,7 +2,7 @@
 ghost use mathlib.Core.Path.{_≡_};
 ghost use Rattle.numbers.specs.Parts.{partAt};
 ghost use Rattle.trie.specs.ExportsTrie.{regularAt, reexportAt, stubAt, exportAt};
-use numbers::Number;
+use numbers::leb128::Unsigned;
 use numbers::leb128::read_uleb;
 use numbers::parts::part;
 use numbers::strings::Text;
@@ -45,7 +45,7 @@ impl Import {
 pub(crate) fn read_export(s: &[u8], at: usize) -> ExportRead
     ensures { λ r. ⌜ r ≡ exportAt (now (s .entry)) at ⌝ }
 {
-    let Number::Value(flags, next) = read_uleb(s, at) else {
+    let Unsigned::Value(flags, next) = read_uleb(s, at) else {
         return ExportRead::Fault;
     };
     if 0x3f < flags {
@@ -63,7 +63,7 @@ pub(crate) fn read_export(s: &[u8], at: usize) -> ExportRead
 fn reexport(s: &[u8], flags: u8, at: usize) -> ExportRead
     ensures { λ r. ⌜ r ≡ reexportAt (now (s .entry)) flags at ⌝ }
 {
-    let Number::Value(ordinal, next) = read_uleb(s, at) else {
+    let Unsigned::Value(ordinal, next) = read_uleb(s, at) else {
         return ExportRead::Fault;
     };
     let Text::Found {
@@ -86,10 +86,10 @@ fn reexport(s: &[u8], flags: u8, at: usize) -> ExportRead
 fn stub_and_resolver(s: &[u8], flags: u8, at: usize) -> ExportRead
     ensures { λ r. ⌜ r ≡ stubAt (now (s .entry)) flags at ⌝ }
 {
-    let Number::Value(stub, next) = read_uleb(s, at) else {
+    let Unsigned::Value(stub, next) = read_uleb(s, at) else {
         return ExportRead::Fault;
     };
-    let Number::Value(resolver, _) = read_uleb(s, next) else {
+    let Unsigned::Value(resolver, _) = read_uleb(s, next) else {
         return ExportRead::Fault;
     };
     let target = ExportData::StubAndResolver { stub, resolver };
@@ -99,7 +99,7 @@ fn stub_and_resolver(s: &[u8], flags: u8, at: usize) -> ExportRead
 fn regular(s: &[u8], flags: u8, at: usize) -> ExportRead
     ensures { λ r. ⌜ r ≡ regularAt (now (s .entry)) flags at ⌝ }
 {
-    let Number::Value(address, _) = read_uleb(s, at) else {
+    let Unsigned::Value(address, _) = read_uleb(s, at) else {
         return ExportRead::Fault;
     };
     let target = ExportData::Regular { address };

@@ -4,7 +4,7 @@ ghost use Rattle.trie.specs.ExportsTrie.{countedAt, nodeAt, edgeAt};
 use crate::export::Export;
 use crate::export::ExportRead;
 use crate::export::read_export;
-use numbers::Number;
+use numbers::leb128::Unsigned;
 use numbers::leb128::read_uleb;
 use numbers::strings::Text;
 use numbers::strings::read_string;
@@ -44,7 +44,7 @@ pub(crate) enum EdgeRead {
 pub(crate) fn read_node(s: &[u8], offset: u64) -> NodeRead
     ensures { λ r. ⌜ r ≡ nodeAt (now (s .entry)) offset ⌝ }
 {
-    let Number::Value(size, at) = read_uleb(s, offset as usize) else {
+    let Unsigned::Value(size, at) = read_uleb(s, offset as usize) else {
         return NodeRead::Fault;
     };
     if size == 0 {
@@ -86,7 +86,7 @@ pub(crate) fn read_edge(s: &[u8], at: usize) -> EdgeRead
     else {
         return EdgeRead::Fault;
     };
-    let Number::Value(offset, behind) = read_uleb(s, next) else {
+    let Unsigned::Value(offset, behind) = read_uleb(s, next) else {
         return EdgeRead::Fault;
     };
     EdgeRead::Found(Edge {

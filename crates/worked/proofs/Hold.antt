@@ -9,12 +9,12 @@ use Rattle.numbers.specs.Leb128.{ulebAt, slebAt}
 use Rattle.numbers.specs.Parts.{partOf}
 use Rattle.numbers.specs.Runs.{runTo}
 use Rattle.numbers.specs.Strings.{stringAt}
-use Rattle.numbers.specs.Then.{thenNumber, thenSigned, thenText}
+use Rattle.numbers.specs.Then.{thenUnsigned, thenSigned, thenText}
 use Rattle.operations.specs.Table.{lookedUp, operationAt}
 use Rattle.places.specs.Places.{placeAt, fits}
 use Rattle.preflight.specs.Verdict.{inside, verdict, withSizes, preflight}
 use Rattle.worked.specs.Examples.{allNamed, examples, defined, documented}
 
 pub examples-hold : map defined examples ≡ map documented examples
-unfolding ulebAt slebAt stringAt runTo fromDigits partOf thenNumber thenSigned thenText lookedUp operationAt before streamIn streamAt placeAt turnOf places repeated listed listingOf listing heard allNamed fits inside verdict withSizes preflight
+unfolding ulebAt slebAt stringAt runTo fromDigits partOf thenUnsigned thenSigned thenText lookedUp operationAt before streamIn streamAt placeAt turnOf places repeated listed listingOf listing heard allNamed fits inside verdict withSizes preflight
 examples-hold = refl

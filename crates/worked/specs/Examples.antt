@@ -7,10 +7,10 @@ use Rattle.bind.specs.Binds.{binds}
 use Rattle.bind.specs.Binds as bind
 use Rattle.bind.specs.declared.Bind.{Bind}
 use Rattle.listing.specs.Listing.{listing, heard}
-use Rattle.numbers.specs.declared.Number.{Number}
-use Rattle.numbers.specs.declared.Number.the-variants.{Value as UnsignedValue}
 use Rattle.numbers.specs.declared.leb128.Signed.{Signed}
 use Rattle.numbers.specs.declared.leb128.Signed.the-variants.{Value as SignedValue}
+use Rattle.numbers.specs.declared.leb128.Unsigned.{Unsigned}
+use Rattle.numbers.specs.declared.leb128.Unsigned.the-variants.{Value as UnsignedValue}
 use Rattle.numbers.specs.Leb128.{ulebAt, slebAt}
 use Rattle.numbers.specs.Parts.{partOf}
 use Rattle.preflight.specs.Verdict.{Verdict, pass, fault, preflight}
@@ -47,7 +47,7 @@ pub data Example : Type 0 where
   preflownBinds : (bytes sizes : List ℕ) → Verdict → Example
 
 pub data Meaning : Type 0 where
-  unsigned : Number → Meaning
+  unsigned : Unsigned → Meaning
   signed : Signed → Meaning
   places : Run Rebase → Meaning
   symbols : Run Symbol → Meaning

@@ -11,7 +11,7 @@ use Rattle.numbers.specs.Gathered.{gatheredAt}
 use Rattle.numbers.specs.Runs.{Run, run, unended}
 use Rattle.numbers.specs.declared.leb128.Gathered.{Gathered}
 use Rattle.numbers.specs.declared.leb128.Gathered.the-variants.{Few, Ten, Cut}
-use Rattle.numbers.specs.declared.Number.the-variants.{Value, Fault}
+use Rattle.numbers.specs.declared.leb128.Unsigned.the-variants.{Value, Fault}
 use Rattle.numbers.proofs.leb128.Chunks.{sum-below}
 use Rattle.numbers.proofs.leb128.Views.{SeenFew, SeenTen, IsCut, value-is, next-is, no-tenth, tenth-is, seen, few-sum, few-product}
 
