@@ -1,17 +1,18 @@
 # Whether preflights step through places. Reads a program as 'rt mir' prints it; says 'passed' and ends with 0, or says what is refused
 # and ends with 1.
 #
-#   perl .ci/straight.pl PREFLIGHT.. <PROGRAM
+#   perl .ci/straight.pl PROOFS PREFLIGHT.. <PROGRAM
 #
-# A PREFLIGHT is the name of a function that has to read operations. Three rules hold for it and for all that it calls, in any crate.
+# PROOFS is the folder of the crate's proofs. A PREFLIGHT is the name of a function that has to read operations. Three rules
+# hold for it and for all that it calls, in any crate.
 # The parsers of operations are the reading itself: they are not looked into.
 #
 #   1. No function leads back to itself.
 #   2. There is no loop but that over the operations. (Before it, a function may loop that is given the sizes and nothing else.)
-#   3. Each turn of that loop reads, and each reading begins behind the operation that was read before it.
+#   3. With each turn of that loop there are fewer bytes behind the place of the next operation: by that measure the loop is proved to end.
 #
-# So there are no more turns than operations, and a turn has a bounded number of steps beside the reading. The forms of a program are
-# those of the kit's logic/Mir/Syntax.antt. A form that is not known here is refused.
+# So there are no more turns than the stream has bytes, and a turn has a bounded number of steps beside the reading. The forms of a
+# program are those of the kit's logic/Mir/Syntax.antt. A form that is not known here is refused.
 use strict;
 use warnings;
 no warnings 'recursion';
@@ -20,8 +21,8 @@ my %parser = map { $_ => 1 } qw(
     operations::rebase_operation::RebaseOperation::parse
     operations::bind_operation::BindOperation::parse
 );
-my $behind = 'lcons variant 0 lcons field 2 lnil';    # in their answer Operation(OPERATION, PLACE): the place
-my (%parameters, %locals, %body);                     # by a function's name: how many; lists of 'local', TYPE, HOME; a statement
+my (%parameters, %locals, %body);    # by a function's name: how many; lists of 'local', TYPE, HOME; a statement
+my $proofs;
 
 sub refuse { print "refused: @_\n"; exit 1 }
 
@@ -152,9 +153,9 @@ sub one_loop {
     for (acts($body{$name})) {
         my ($act, $of) = @$_;
         if ($act eq 'loop') {
-            refuse("loop in $name") if $read || !grep { $parser{$_} } calls($of);
+            refuse("loop in $name") if $read || !grep { reads($_) } calls($of);
             no_loop($name, $of);
-            turns($name, $of);
+            measured($name);
             $read = 1;
         } elsif ($parser{$of}) {
             refuse("a reading outside of a loop in $name");
@@ -178,100 +179,21 @@ sub no_loop {
 
 # ---- rule 3: the turns of the loop over the operations
 
-# A body is left by going on ('on'), or by an exit out of so many blocks and loops (0, 1, ..); a return leaves the function. For each
-# of these ways there are facts, which hold on every path to it:
-#   first     nothing was read yet, in this turn or an earlier one
-#   read      this turn has read
-#   answer N  the local N has the parser's last answer
-#   next N    the local N has the place behind the operation, out of that answer
-my $flight;    # the function that has the loop
-
-sub turns {
-    ($flight, my $loop) = @_;
-    refuse("a local in memory, where calls can change it, in $flight") if grep { $_->[2] ne 'valueLocal' } @{ $locals{$flight} };
-    my $facts = { first => 1 };
-    for my $turn ('the first', 'any other') {
-        # A loop comes round at the end of its body, and at an exit out of that alone.
-        $facts = outwards(ways($loop, $facts))->{on} or return;
-        delete $facts->{read} or refuse("a turn without a reading in $flight");
-    }
-}
-
-# The facts for each way out of a body, by those before it.
-sub ways {
-    my ($body, $facts) = @_;
-    my ($form, @of) = statement($body);
-    return {} if $form eq 'return';
-    return { on => $facts } if $form eq 'skip';
-    return { $of[0] => $facts } if $form eq 'exit';
-    return { on => assigned($facts, @of) } if $form eq 'assign';
-    return { on => called($facts, @of) } if $form eq 'call';
-    return outwards(ways($of[0], $facts)) if $form eq 'block';
-    return merged(map { ways($_, $facts) } @of[1, 2]) if $form eq 'if';
-    return merged(map { ways($_, $facts) } arms($of[1])) if $form eq 'switch';
-    $form eq 'seq' or refuse("loop in $flight");
-    my $ways = ways($of[0], $facts);
-    my $on = delete $ways->{on} or return $ways;
-    return merged($ways, ways($of[1], $on));
-}
-
-# The ways out of a block, by those out of its body.
-sub outwards {
-    my ($ways) = @_;
-    return merged(map { my $to = $_ eq 'on' || $_ == 0 ? 'on' : $_ - 1; +{ $to => $ways->{$_} } } keys %$ways);
-}
-
-# Where ways meet, the facts hold that all of them have.
-sub merged {
-    my %merged;
-    for my $ways (@_) {
-        for my $to (keys %$ways) {
-            my ($new, $old) = ($ways->{$to}, $merged{$to} // $ways->{$to});
-            $merged{$to} = { map { $_ => 1 } grep { $old->{$_} } keys %$new };
-        }
-    }
-    return \%merged;
-}
-
-# Behind a call. A parser must be given a place that is known to be the next.
-sub called {
-    my ($facts, $function, $arguments, $place) = @_;
-    my (undef, $local, $steps) = @$place;
-    return changed($facts, $local) unless $parser{ callee($function) };
-    my ($at, $within) = copied((items($arguments))[1]);
-    $facts->{first} || $within eq 'lnil' && $facts->{"next $at"}
-        or refuse("a reading that does not begin behind the one before it in $flight");
-    return $steps eq 'lnil' ? { read => 1, "answer $local" => 1 } : { read => 1 };
-}
-
-# Behind an assignment. The next place is taken from the answer, or copied.
-sub assigned {
-    my ($facts, $place, $value) = @_;
-    my (undef, $local, $steps) = @$place;
-    my ($from, $within) = $value->[0] eq 'rvOpd' ? copied($value->[1]) : ('', 'lnil');
-    my $next = $within eq 'lnil' ? $facts->{"next $from"} : words($within) eq $behind && $facts->{"answer $from"};
-    my $after = changed($facts, $local);
-    $after->{"next $local"} = 1 if $next && $steps eq 'lnil';
-    return $after;
-}
-
-# Behind a change of a local.
-sub changed {
-    my ($facts, $local) = @_;
-    my %after = %$facts;
-    delete @after{ "answer $local", "next $local" };
-    return \%after;
-}
-
-# The local that an operand copies, and the steps into it. A constant has no local.
-sub copied {
-    my ($operand) = @_;
-    return ref $operand && $operand->[0] eq 'copy' ? @{ $operand->[1] }[1, 2] : ('', 'lnil');
+# In the proof of a function that has the loop. The kit proves that the measure falls with each turn.
+sub measured {
+    my ($name) = @_;
+    my ($file) = $name =~ s{^preflight::}{}r =~ s{::}{/}gr;
+    open my $proof, '<', "$proofs/$file/Proof.antt" or refuse("no proof of $name");
+    my $text = do { local $/; <$proof> };
+    my $is = 'μ-loop s size sizes flight₀ flight = length s - flight .at';
+    my $taken = "(tie.spec\n    Inv-loop\n    μ-loop\n";
+    index($text, "\n$is\n") >= 0 && index($text, $taken) >= 0 or refuse("turns that the bytes left do not count in $name");
 }
 
 # ---- all of it
 
 read_program();
+$proofs = shift @ARGV;
 @ARGV or refuse('no preflight is named');
 for my $name (@ARGV) {
     exists $body{$name} or refuse("$name is not in the program");

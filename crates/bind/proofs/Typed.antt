@@ -41,13 +41,13 @@ use Rattle.bind.specs.declared.Bind.{Bind}
 use Rattle.bind.specs.declared.Registers.{Registers}
 
 pub record TypedRegisters (g : Registers) : Type 0 where
-  pub segment : g .segment < 2 ^ 8
-  pub kind : g .kind < 2 ^ 8
-  pub library : SFits w32 (g .library)
   pub place : g .place < 2 ^ 64
   pub length : g .length < 2 ^ 64
-  pub flags : g .flags < 2 ^ 8
   pub addend : SFits w64 (g .addend)
+  pub library : SFits w32 (g .library)
+  pub segment : g .segment < 2 ^ 8
+  pub kind : g .kind < 2 ^ 8
+  pub flags : g .flags < 2 ^ 8
 
 -- of each kind of walk, at its start
 typed-unset : (lazy : Bool) → TypedRegisters (unset lazy)
@@ -130,14 +130,14 @@ module _ (s : List ℕ) (short : length s < 2 ^ 64) (size : ℕ) (g : Registers)
   counted (DoBindTimesSkipping count skip) b = b
 
 pub record TypedBind (x : Bind) : Type 0 where
-  pub segment : x .segment < 2 ^ 8
   pub offset : x .offset < 2 ^ 64
-  pub kind : x .kind < 2 ^ 8
-  pub library : SFits w32 (x .library)
   pub place : x .place < 2 ^ 64
   pub length : x .length < 2 ^ 64
-  pub flags : x .flags < 2 ^ 8
   pub addend : SFits w64 (x .addend)
+  pub library : SFits w32 (x .library)
+  pub segment : x .segment < 2 ^ 8
+  pub kind : x .kind < 2 ^ 8
+  pub flags : x .flags < 2 ^ 8
 
 -- every call on a state whose fields are such as their types have hands such a state back, and such items
 module _ (s : List ℕ) (short : length s < 2 ^ 64) (w : State Registers) (t : typed.Typed TypedRegisters w) where

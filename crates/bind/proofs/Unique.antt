@@ -5,7 +5,6 @@ use Rattle.listing.specs.Call.{State}
 use Rattle.listing.specs.Machine.{Effect}
 use Rattle.refusal.proofs.Numbered.{refusalOf, refusal-back}
 use Rattle.refusal.proofs.Unique.{one-each}
-use Rattle.refusal.specs.declared.Refusal.{Refusal}
 use Rattle.runs.specs.Runs.{Begin, begun, notBegun, Answer, item, end, refused}
 use Rattle.bind.specs.Told.{startTold, told, effectTold}
 use Rattle.bind.specs.declared.Bind.{Bind}
@@ -25,18 +24,18 @@ startOf (begun w) = start.Begun (walkOf w)
 startOf (notBegun n) = start.Refused (refusalOf n)
 
 abbrev stepOf : Answer (State Registers) Bind → BindStep
-stepOf (item x w) = step.Item x (walkOf w)
+stepOf (item x w) = step.Item (walkOf w) x
 stepOf (end w) = step.End (walkOf w)
-stepOf (refused n w) = step.Refused (refusalOf n) (walkOf w)
+stepOf (refused n w) = step.Refused (walkOf w) (refusalOf n)
 
 start-back : (r : BindStart) → startOf (startTold r) ≡ r
 start-back (start.Begun w) = refl
 start-back (start.Refused e) = ap start.Refused (refusal-back e)
 
 step-back : (r : BindStep) → stepOf (told r) ≡ r
-step-back (step.Item x w) = refl
+step-back (step.Item w x) = refl
 step-back (step.End w) = refl
-step-back (step.Refused e w) = ap (λ (e : Refusal). step.Refused e w) (refusal-back e)
+step-back (step.Refused w e) = ap (step.Refused w) (refusal-back e)
 
 pub start-one : (r q : BindStart) → startTold r ≡ startTold q → r ≡ q
 start-one = one-each startTold startOf start-back

@@ -32,103 +32,103 @@ use Rattle.refusal.specs.declared.Refusal.the-variants.{OrdinalTooLarge, NoSegm
 abbrev pub unset : (lazy : Bool) → Registers
 unset lazy =
     record {
+      place = 0;
+      length = 0;
+      addend = pos 0;
+      library = pos 0;
+      segment = 0;
+      kind = 0;
+      flags = 0;
       lazy = lazy;
       segmented = false;
       typed = false;
       sourced = false;
       named = false;
-      segment = 0;
-      kind = 0;
-      library = pos 0;
-      place = 0;
-      length = 0;
-      flags = 0;
-      addend = pos 0;
     }
 
 abbrev pub withLibrary : ℤ → Registers → Registers
 withLibrary library g =
     record {
+      place = g .place;
+      length = g .length;
+      addend = g .addend;
+      library = library;
+      segment = g .segment;
+      kind = g .kind;
+      flags = g .flags;
       lazy = g .lazy;
       segmented = g .segmented;
       typed = g .typed;
       sourced = true;
       named = g .named;
-      segment = g .segment;
-      kind = g .kind;
-      library = library;
-      place = g .place;
-      length = g .length;
-      flags = g .flags;
-      addend = g .addend;
     }
 
 abbrev pub withSymbol : (flags place length : ℕ) → Registers → Registers
 withSymbol flags place length g =
     record {
+      place = place;
+      length = length;
+      addend = g .addend;
+      library = g .library;
+      segment = g .segment;
+      kind = g .kind;
+      flags = flags;
       lazy = g .lazy;
       segmented = g .segmented;
       typed = g .typed;
       sourced = g .sourced;
       named = true;
-      segment = g .segment;
-      kind = g .kind;
-      library = g .library;
-      place = place;
-      length = length;
-      flags = flags;
-      addend = g .addend;
     }
 
 abbrev pub withType : ℕ → Registers → Registers
 withType kind g =
     record {
+      place = g .place;
+      length = g .length;
+      addend = g .addend;
+      library = g .library;
+      segment = g .segment;
+      kind = kind;
+      flags = g .flags;
       lazy = g .lazy;
       segmented = g .segmented;
       typed = true;
       sourced = g .sourced;
       named = g .named;
-      segment = g .segment;
-      kind = kind;
-      library = g .library;
-      place = g .place;
-      length = g .length;
-      flags = g .flags;
-      addend = g .addend;
     }
 
 abbrev pub withAddend : ℤ → Registers → Registers
 withAddend addend g =
     record {
+      place = g .place;
+      length = g .length;
+      addend = addend;
+      library = g .library;
+      segment = g .segment;
+      kind = g .kind;
+      flags = g .flags;
       lazy = g .lazy;
       segmented = g .segmented;
       typed = g .typed;
       sourced = g .sourced;
       named = g .named;
-      segment = g .segment;
-      kind = g .kind;
-      library = g .library;
-      place = g .place;
-      length = g .length;
-      flags = g .flags;
-      addend = addend;
     }
 
 abbrev pub withSegment : ℕ → Registers → Registers
 withSegment index g =
     record {
+      place = g .place;
+      length = g .length;
+      addend = g .addend;
+      library = g .library;
+      segment = index;
+      kind = g .kind;
+      flags = g .flags;
       lazy = g .lazy;
       segmented = true;
       typed = g .typed;
       sourced = g .sourced;
       named = g .named;
-      segment = index;
-      kind = g .kind;
-      library = g .library;
-      place = g .place;
-      length = g .length;
-      flags = g .flags;
-      addend = g .addend;
     }
 
 -- ---- how a walk begins: plain with nothing set, weak with type 1 and library -3, lazy with type 1
@@ -180,14 +180,14 @@ lackOf g =
 abbrev pub itemOf : Registers → (offset : ℕ) → Bind
 itemOf g offset =
     record {
-      segment = g .segment;
       offset = offset;
-      kind = g .kind;
-      library = g .library;
       place = g .place;
       length = g .length;
-      flags = g .flags;
       addend = g .addend;
+      library = g .library;
+      segment = g .segment;
+      kind = g .kind;
+      flags = g .flags;
     }
 
 abbrev pub placeOf : Bind → Place

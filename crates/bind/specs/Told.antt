@@ -20,9 +20,9 @@ startTold (start.Begun w) = begun (view w)
 startTold (start.Refused e) = notBegun (numberOf e)
 
 abbrev pub told : BindStep → Answer (State Registers) Bind
-told (step.Item x w) = item x (view w)
+told (step.Item w x) = item x (view w)
 told (step.End w) = end (view w)
-told (step.Refused e w) = refused (numberOf e) (view w)
+told (step.Refused w e) = refused (numberOf e) (view w)
 
 abbrev pub effectTold : BindEffect → Effect Registers
 effectTold r = r .registers and r .motion

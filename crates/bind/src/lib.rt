@@ -18,34 +18,35 @@ use operations::bind_operation::BindOperation;
 use operations::bind_operation::BindParse;
 use refusal::Refusal;
 
-// A place that the loader binds: its segment, its offset there, its type, the library that the symbol
-// is taken from, the place and length of the symbol's name in the stream, its flags, and the addend.
+// A place that the loader binds: its offset in a segment, the place and length of the symbol's name in
+// the stream, the addend, the library that the symbol is taken from, the segment, the type of the
+// place, and the symbol's flags.
 pub struct Bind {
-    pub segment: u8,
     pub offset: u64,
-    pub kind: u8,
-    pub library: i32,
     pub place: usize,
     pub length: usize,
-    pub flags: u8,
     pub addend: i64,
+    pub library: i32,
+    pub segment: u8,
+    pub kind: u8,
+    pub flags: u8,
 }
 
-// Whether the walk is a lazy one; whether segment, type, library (`sourced`) and symbol (`named`) are
-// set; and what operations have set, but for the offset.
+// What operations have set, but for the offset; whether the walk is a lazy one; and whether segment,
+// type, library (`sourced`) and symbol (`named`) are set.
 pub struct Registers {
+    pub place: usize,
+    pub length: usize,
+    pub addend: i64,
+    pub library: i32,
+    pub segment: u8,
+    pub kind: u8,
+    pub flags: u8,
     pub lazy: bool,
     pub segmented: bool,
     pub typed: bool,
     pub sourced: bool,
     pub named: bool,
-    pub segment: u8,
-    pub kind: u8,
-    pub library: i32,
-    pub place: usize,
-    pub length: usize,
-    pub flags: u8,
-    pub addend: i64,
 }
 
 pub struct BindWalk {
@@ -59,15 +60,15 @@ pub enum BindStart {
 }
 
 pub enum BindStep {
-    Item(Bind, BindWalk),
+    Item(BindWalk, Bind),
     End(BindWalk),
-    Refused(Refusal, BindWalk),
+    Refused(BindWalk, Refusal),
 }
 
-// What an operation does: the registers from now on, and what becomes of the place.
+// What an operation does: what becomes of the place, and the registers from now on.
 pub struct BindEffect {
-    pub registers: Registers,
     pub motion: Motion,
+    pub registers: Registers,
 }
 
 impl Bind {
@@ -85,18 +86,18 @@ impl Registers {
         ensures { λ r. ⌜ r ≡ unset lazy ⌝ }
     {
         Registers {
+            place: 0,
+            length: 0,
+            addend: 0,
+            library: 0,
+            segment: 0,
+            kind: 0,
+            flags: 0,
             lazy,
             segmented: false,
             typed: false,
             sourced: false,
             named: false,
-            segment: 0,
-            kind: 0,
-            library: 0,
-            place: 0,
-            length: 0,
-            flags: 0,
-            addend: 0,
         }
     }
 
@@ -189,8 +190,8 @@ impl Registers {
         ensures { λ r. ⌜ effectTold r ≡ (self and motion) ⌝ }
     {
         BindEffect {
-            registers: self,
             motion,
+            registers: self,
         }
     }
 
@@ -222,14 +223,14 @@ impl Registers {
         ensures { λ r. ⌜ r ≡ itemOf self offset ⌝ }
     {
         Bind {
-            segment: self.segment,
             offset,
-            kind: self.kind,
-            library: self.library,
             place: self.place,
             length: self.length,
-            flags: self.flags,
             addend: self.addend,
+            library: self.library,
+            segment: self.segment,
+            kind: self.kind,
+            flags: self.flags,
         }
     }
 }
@@ -280,7 +281,7 @@ impl BindWalk {
     {
         let given = self.cursor;
         match given.standing(s.len()) {
-            Standing::OutOfRange => BindStep::Refused(Refusal::StateOutOfRange, self),
+            Standing::OutOfRange => BindStep::Refused(self, Refusal::StateOutOfRange),
             Standing::Ended => BindStep::End(self),
             Standing::Due(cursor) => {
                 let registers = self.registers;
@@ -325,7 +326,7 @@ impl BindWalk {
     {
         let g = behind.registers;
         match g.lack() {
-            Lack::Nothing => BindStep::Item(g.item(offset), behind),
+            Lack::Nothing => BindStep::Item(behind, g.item(offset)),
             Lack::Lacks(e) => self.refused(e),
         }
     }
@@ -335,6 +336,6 @@ impl BindWalk {
         ensures { λ r. ⌜ told r ≡ refusal (view self) e ⌝ }
     {
         self.cursor.ended = true;
-        BindStep::Refused(e, self)
+        BindStep::Refused(self, e)
     }
 }

@@ -48,16 +48,16 @@ bindStep stream state item = stepped bind.states bind.items state item (listing.
 -- ---- preflights
 
 abbrev pub preflightRebase : (stream : List ℕ) (size : ℕ) (sizes verdict : List ℕ) → ℕ × List ℕ
-preflightRebase stream size sizes verdict = flown sizes verdict (λ zs. preflight rebases unset size zs stream)
+preflightRebase stream size sizes verdict = flown (preflight rebases unset) stream size sizes verdict
 
 abbrev pub preflightPlain : (stream : List ℕ) (size : ℕ) (sizes verdict : List ℕ) → ℕ × List ℕ
-preflightPlain stream size sizes verdict = flown sizes verdict (λ zs. preflight binds plainly size zs stream)
+preflightPlain stream size sizes verdict = flown (preflight binds plainly) stream size sizes verdict
 
 abbrev pub preflightWeak : (stream : List ℕ) (size : ℕ) (sizes verdict : List ℕ) → ℕ × List ℕ
-preflightWeak stream size sizes verdict = flown sizes verdict (λ zs. preflight binds weakly size zs stream)
+preflightWeak stream size sizes verdict = flown (preflight binds weakly) stream size sizes verdict
 
 abbrev pub preflightLazy : (stream : List ℕ) (size : ℕ) (sizes verdict : List ℕ) → ℕ × List ℕ
-preflightLazy stream size sizes verdict = flown sizes verdict (λ zs. preflight binds lazily size zs stream)
+preflightLazy stream size sizes verdict = flown (preflight binds lazily) stream size sizes verdict
 
 -- ---- the exports trie
 

@@ -11,8 +11,8 @@ use Rattle.chains.specs.Call.{atIndex, recorded, seek, call}
 use Rattle.chains.specs.FixupChains.{offsetAt, recordSize, startsIn, recordOf, recordAt}
 use Rattle.chains.specs.declared.Segment.{Segment}
 use Rattle.chains.specs.declared.SegmentWalk.{SegmentWalk}
-use Rattle.chains.specs.declared.record.Record.{Record}
-use Rattle.chains.specs.declared.record.Record.the-variants.{Found, Fault}
+use Rattle.chains.specs.declared.record.SegmentRead.{SegmentRead}
+use Rattle.chains.specs.declared.record.SegmentRead.the-variants.{Found, Fault}
 use Rattle.numbers.proofs.Picks.{by-pick}
 use Rattle.numbers.specs.LittleEndian.{littleEndian}
 use Rattle.refusal.specs.Numbers.{numberOf}
@@ -22,7 +22,7 @@ use Rattle.runs.specs.Runs.{item, refused}
 
 -- ---- what holds of every record that is found, holds of every segment that is yielded
 
-abbrev pub IfFound : (Segment → Type 0) → Record → Type 0
+abbrev pub IfFound : (Segment → Type 0) → SegmentRead → Type 0
 IfFound P (Found g) = P g
 IfFound P Fault = Unit {0}
 
@@ -40,7 +40,7 @@ module _ (s : List ℕ) (P : Segment → Type 0) where
       by false e = p (ltb-false (length s) (at + recordSize + 2 * startsIn (littleEndian 4 s at)) e)
 
   module _ (w : SegmentWalk) (all : (index at : ℕ) → index < w .count → IfFound P (recordAt s index at)) where
-    recorded-yields : (v : SegmentWalk) (x : Record) → IfFound P x → IfItem P (recorded v x)
+    recorded-yields : (v : SegmentWalk) (x : SegmentRead) → IfFound P x → IfItem P (recorded v x)
     unfolding recorded
     recorded-yields v (Found g) h = h
     recorded-yields v Fault h = tt

@@ -10,12 +10,12 @@ use lib.ListN.{length}
 use Rattle.chains.proofs.Headers.{both-headers}
 use Rattle.chains.specs.Call.{begin, atIndex, recorded, seek, call}
 use Rattle.chains.specs.FixupChains.{headerAt, offsetAt, thenStarts, recordAt}
-use Rattle.chains.specs.Heard.{heard, hear}
+use Rattle.chains.specs.Hear.{asEntry, hear}
 use Rattle.chains.specs.Listing.{Entry, entry, segments, listing}
 use Rattle.chains.specs.declared.Segment.{Segment}
 use Rattle.chains.specs.declared.SegmentWalk.{SegmentWalk}
-use Rattle.chains.specs.declared.record.Record.{Record}
-use Rattle.chains.specs.declared.record.Record.the-variants.{Found, Fault}
+use Rattle.chains.specs.declared.record.SegmentRead.{SegmentRead}
+use Rattle.chains.specs.declared.record.SegmentRead.the-variants.{Found, Fault}
 use Rattle.numbers.proofs.Picks.{by-pick, both-picks}
 use Rattle.numbers.proofs.Rows.{field-ends}
 use Rattle.numbers.proofs.Then.{both-numbers}
@@ -32,32 +32,32 @@ module _ (s : List ℕ) where
   ahead w = segments s (w .place) (w .count - w .index) (w .index)
 
   module _ (w : SegmentWalk) where
-    says-record : (n i : ℕ) → n ≡ w .count - (i + 1) → (x : Record) → gives (entry x) (segments s (w .place) n (i + 1)) ≡ shown ahead (heard (recorded (atIndex (i + 1) w) x))
+    says-record : (n i : ℕ) → n ≡ w .count - (i + 1) → (x : SegmentRead) → gives (entry x) (segments s (w .place) n (i + 1)) ≡ shown ahead (asEntry (recorded (atIndex (i + 1) w) x))
     unfolding recorded
     says-record n i e (Found x) = ap (λ (m : ℕ). gives (entry (Found x)) (segments s (w .place) m (i + 1))) e
     says-record n i e Fault = ap (λ (m : ℕ). gives (entry Fault) (segments s (w .place) m (i + 1))) e
 
-    says-seek : (n i : ℕ) → w .count - i ≡ n → segments s (w .place) n i ≡ shown ahead (heard (seek s w n i))
+    says-seek : (n i : ℕ) → w .count - i ≡ n → segments s (w .place) n i ≡ shown ahead (asEntry (seek s w n i))
     unfolding segments seek
     says-seek zero i e = refl
     says-seek (suc n) i e = by (eqb (offsetAt s (w .place) i) 0) (says-seek n (i + 1) (omega arith))
       where
-        by : (t : Bool) → segments s (w .place) n (i + 1) ≡ shown ahead (heard (seek s w n (i + 1))) →
+        by : (t : Bool) → segments s (w .place) n (i + 1) ≡ shown ahead (asEntry (seek s w n (i + 1))) →
             cond t (segments s (w .place) n (i + 1)) (gives (entry (recordAt s i (w .place + offsetAt s (w .place) i))) (segments s (w .place) n (i + 1)))
-            ≡ shown ahead (heard (cond t (seek s w n (i + 1)) (recorded (atIndex (i + 1) w) (recordAt s i (w .place + offsetAt s (w .place) i)))))
+            ≡ shown ahead (asEntry (cond t (seek s w n (i + 1)) (recorded (atIndex (i + 1) w) (recordAt s i (w .place + offsetAt s (w .place) i)))))
         by true later = later
         by false later = says-record n i (omega arith) (recordAt s i (w .place + offsetAt s (w .place) i))
 
-    stays-record : (i : ℕ) → Inside w → (x : Record) → Stays Inside (heard (recorded (atIndex i w) x))
+    stays-record : (i : ℕ) → Inside w → (x : SegmentRead) → Stays Inside (asEntry (recorded (atIndex i w) x))
     unfolding recorded
     stays-record i h (Found x) = h
     stays-record i h Fault = h
 
-    stays-seek : (n i : ℕ) → Inside w → Stays Inside (heard (seek s w n i))
+    stays-seek : (n i : ℕ) → Inside w → Stays Inside (asEntry (seek s w n i))
     unfolding seek
     stays-seek zero i h = tt
     stays-seek (suc n) i h =
-        by-pick (λ (a : Answer SegmentWalk Segment). Stays Inside (heard a)) (eqb (offsetAt s (w .place) i) 0) _ _ (stays-seek n (i + 1) h)
+        by-pick (λ (a : Answer SegmentWalk Segment). Stays Inside (asEntry a)) (eqb (offsetAt s (w .place) i) 0) _ _ (stays-seek n (i + 1) h)
         (stays-record (i + 1) h (recordAt s i (w .place + offsetAt s (w .place) i)))
 
     inside-call : Inside w → call s w ≡ seek s w (w .count - w .index) (w .index)
@@ -65,10 +65,10 @@ module _ (s : List ℕ) where
     inside-call h = rw h
 
     says : Inside w → ahead w ≡ shown ahead (hear s w)
-    says h = says-seek (w .count - w .index) (w .index) refl ∙ ap (λ (a : Answer SegmentWalk Segment). shown ahead (heard a)) (sym (inside-call h))
+    says h = says-seek (w .count - w .index) (w .index) refl ∙ ap (λ (a : Answer SegmentWalk Segment). shown ahead (asEntry a)) (sym (inside-call h))
 
     stays : Inside w → Stays Inside (hear s w)
-    stays h = subst (λ (a : Answer SegmentWalk Segment). Stays Inside (heard a)) (sym (inside-call h)) (stays-seek (w .count - w .index) (w .index) h)
+    stays h = subst (λ (a : Answer SegmentWalk Segment). Stays Inside (asEntry a)) (sym (inside-call h)) (stays-seek (w .count - w .index) (w .index) h)
 
   -- ---- a start
 
@@ -85,13 +85,13 @@ module _ (s : List ℕ) where
   starts =
       both-headers Starts (headerAt s) _ _ _ _ (λ n. refl)
       (λ h.
-      both-numbers Starts (fieldAt 4 s (h .starts)) _ _ _ _ refl
+      both-numbers Starts (fieldAt 4 s (h .«starts_offset»)) _ _ _ _ refl
       (λ count at e.
       both-picks Starts (ltb (length s) (at + 4 * count)) _ _ _ _ (λ f. refl)
       (λ f.
       record {
-        inside = le-ltb (length s) (h .starts + 4 + 4 * count) (omega (arith, ltb-false (length s) (at + 4 * count) f, field-ends 4 s (h .starts) refl e));
-        all = let z : count ≡ count - 0 = omega arith in ap (λ (n : ℕ). segments s (h .starts) n 0) z;
+        inside = le-ltb (length s) (h .«starts_offset» + 4 + 4 * count) (omega (arith, ltb-false (length s) (at + 4 * count) f, field-ends 4 s (h .«starts_offset») refl e));
+        all = let z : count ≡ count - 0 = omega arith in ap (λ (n : ℕ). segments s (h .«starts_offset») n 0) z;
       })))
 
   -- calls from any state in range, made up or not, say what it has still to list; so every walk ends

@@ -6,7 +6,7 @@ use native.Mathlib.Omega.{arith}
 use borrow.Author.Tests.{le-ltb, lt-ltb, eq-eqb, ne-eqb}
 use lib.ListN.{length}
 use Rattle.chains.specs.FixupChains.{header, noHeader, headerAt, recordSize, startsIn, recordAt}
-use Rattle.chains.specs.declared.record.Record.the-variants.{Found, Fault}
+use Rattle.chains.specs.declared.record.SegmentRead.the-variants.{Found, Fault}
 use Rattle.numbers.specs.LittleEndian.{littleEndian}
 use Rattle.refusal.specs.Numbers.{numberOf}
 use Rattle.refusal.specs.declared.Refusal.the-variants.{FaultyChains, UnknownVersion}
@@ -25,7 +25,17 @@ module _ (s : List ℕ) where
 
     pub header-is : version ≡ 0 → {a b c d f g : ℕ} → a ≡ littleEndian 4 s 4 → b ≡ littleEndian 4 s 8 → c ≡ littleEndian 4 s 12 → d ≡ littleEndian 4 s 16 →
         f ≡ littleEndian 4 s 20 → g ≡ littleEndian 4 s 24 →
-        header (record { version = version; starts = a; imports = b; symbols = c; count = d; format = f; packing = g }) ≡ headerAt s
+        header
+        (record {
+          «fixups_version» = version;
+          «starts_offset» = a;
+          «imports_offset» = b;
+          «symbols_offset» = c;
+          «imports_count» = d;
+          «imports_format» = f;
+          «symbols_format» = g;
+        })
+        ≡ headerAt s
     unfolding headerAt
     header-is z p q r t u v = rw (le-ltb (length s) 28 h, eq-eqb (littleEndian 4 s 0) 0 (sym e ∙ z), p, q, r, t, u, v, e)
 
@@ -60,7 +70,18 @@ module _ (s : List ℕ) (index at : ℕ) where
 
       pub record-is : (size - 22) / 2 ≤ (length s - (at + 22)) / 2 → {a b c d f : ℕ} → a ≡ littleEndian 2 s (at + 4) → b ≡ littleEndian 2 s (at + 6) →
           c ≡ littleEndian 8 s (at + 8) → d ≡ littleEndian 4 s (at + 16) → f ≡ littleEndian 2 s (at + 20) →
-          Found (record { index = index; size = a; format = b; offset = c; limit = d; pages = f; place = at + 22; count = (size - 22) / 2 }) ≡ recordAt s index at
+          Found
+          (record {
+            index = index;
+            «page_size» = a;
+            «pointer_format» = b;
+            «segment_offset» = c;
+            «max_valid_pointer» = d;
+            «page_count» = f;
+            place = at + 22;
+            count = (size - 22) / 2;
+          })
+          ≡ recordAt s index at
       unfolding recordAt
       record-is k p q r t u =
           rw (

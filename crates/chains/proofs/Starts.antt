@@ -11,8 +11,8 @@ use Rattle.chains.specs.Call.{recorded}
 use Rattle.chains.specs.FixupChains.{recordSize, recordAt}
 use Rattle.chains.specs.declared.Segment.{Segment}
 use Rattle.chains.specs.declared.SegmentWalk.{SegmentWalk}
-use Rattle.chains.specs.declared.record.Record.{Record}
-use Rattle.chains.specs.declared.record.Record.the-variants.{Found, Fault}
+use Rattle.chains.specs.declared.record.SegmentRead.{SegmentRead}
+use Rattle.chains.specs.declared.record.SegmentRead.the-variants.{Found, Fault}
 use Rattle.refusal.specs.Numbers.{numberOf}
 use Rattle.refusal.specs.declared.Refusal.the-variants.{FaultyChains}
 use Rattle.runs.specs.Runs.{Answer, item, refused}
@@ -39,7 +39,7 @@ module _ (s : List ℕ) (w : SegmentWalk) (index offset : ℕ) where
   unfolding recorded recordAt
   record-beyond h i = rw (lt-ltb (length s) (w .place + offset + recordSize) (omega arith))
 
-module _ (w : SegmentWalk) (q : Record) {r : Record} (e : r ≡ q) {y : Answer SegmentWalk Segment} where
+module _ (w : SegmentWalk) (q : SegmentRead) {r : SegmentRead} (e : r ≡ q) {y : Answer SegmentWalk Segment} where
   pub record-found : {x : Segment} → r ≡ Found x → y ≡ item x w → y ≡ recorded w q
   unfolding recorded
   record-found f h = rw (sym e ∙ f) h

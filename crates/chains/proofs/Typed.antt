@@ -12,8 +12,8 @@ use Rattle.chains.specs.FixupChains.{HeaderAt, header, noHeader, headerA
 use Rattle.chains.specs.declared.Segment.{Segment}
 use Rattle.chains.specs.declared.SegmentWalk.{SegmentWalk}
 use Rattle.chains.specs.declared.header.Header.{Header}
-use Rattle.chains.specs.declared.record.Record.{Record}
-use Rattle.chains.specs.declared.record.Record.the-variants.{Found, Fault}
+use Rattle.chains.specs.declared.record.SegmentRead.{SegmentRead}
+use Rattle.chains.specs.declared.record.SegmentRead.the-variants.{Found, Fault}
 use Rattle.numbers.proofs.Picks.{by-pick}
 use Rattle.numbers.proofs.Rows.{field-less}
 use Rattle.numbers.proofs.Then.{by-number}
@@ -29,11 +29,11 @@ use Rattle.chains.proofs.Inside.{by-found, yielded}
 -- ---- a header
 
 pub record TypedHeader (h : Header) : Type 0 where
-  pub starts : h .starts < 2 ^ 64
-  pub imports : h .imports < 2 ^ 64
-  pub symbols : h .symbols < 2 ^ 64
-  pub count : h .count < 2 ^ 64
-  pub format : h .format < 2 ^ 64
+  pub «starts_offset» : h .«starts_offset» < 2 ^ 64
+  pub «imports_offset» : h .«imports_offset» < 2 ^ 64
+  pub «symbols_offset» : h .«symbols_offset» < 2 ^ 64
+  pub «imports_count» : h .«imports_count» < 2 ^ 64
+  pub «imports_format» : h .«imports_format» < 2 ^ 64
 
 abbrev IfHeader : HeaderAt → Type 0
 IfHeader (header h) = TypedHeader h
@@ -45,7 +45,13 @@ typed-header s b e =
     subst IfHeader e
     (by-pick IfHeader (ltb (length s) 28) _ _ tt
     (by-pick IfHeader (not (eqb (littleEndian 4 s 0) 0)) _ _ tt
-    (record { starts = field 4; imports = field 8; symbols = field 12; count = field 16; format = field 20 })))
+    (record {
+      «starts_offset» = field 4;
+      «imports_offset» = field 8;
+      «symbols_offset» = field 12;
+      «imports_count» = field 16;
+      «imports_format» = field 20;
+    })))
   where
     field : (at : ℕ) → littleEndian 4 s at < 2 ^ 64
     field at = omega (arith, field-below s 4 at b)
@@ -64,10 +70,10 @@ typed-begin s b e =
     subst (IfBegun Typed) e
     (by-header (headerAt s) _ _ (IfBegun Typed) (λ n. tt)
     (λ h i.
-    by-number (fieldAt 4 s (h .starts)) _ _ (IfBegun Typed) tt
+    by-number (fieldAt 4 s (h .«starts_offset»)) _ _ (IfBegun Typed) tt
     (λ count at f.
     by-pick (IfBegun Typed) (ltb (length s) (at + 4 * count)) _ _ tt
-    (record { place = typed-header s b i .starts; count = omega (arith, field-less 4 s (h .starts) refl f b); index = omega arith }))))
+    (record { place = typed-header s b i .«starts_offset»; count = omega (arith, field-less 4 s (h .«starts_offset») refl f b); index = omega arith }))))
 
 -- a call
 module _ (s : List ℕ) (w : SegmentWalk) (t : Typed w) where
@@ -77,7 +83,7 @@ module _ (s : List ℕ) (w : SegmentWalk) (t : Typed w) where
   at-index : {i : ℕ} → i < 2 ^ 64 → Typed (atIndex i w)
   at-index h = record { place = t .place; count = t .count; index = h }
 
-  good-record : {i : ℕ} → i < 2 ^ 64 → (x : Record) → Good (recorded (atIndex i w) x)
+  good-record : {i : ℕ} → i < 2 ^ 64 → (x : SegmentRead) → Good (recorded (atIndex i w) x)
   unfolding recorded
   good-record h (Found g) = at-index h
   good-record h Fault = (at-index h, is-number FaultyChains)
@@ -99,11 +105,11 @@ module _ (s : List ℕ) (w : SegmentWalk) (t : Typed w) where
 
 pub record TypedSegment (g : Segment) : Type 0 where
   pub index : g .index < 2 ^ 64
-  pub size : g .size < 2 ^ 16
-  pub format : g .format < 2 ^ 16
-  pub offset : g .offset < 2 ^ 64
-  pub limit : g .limit < 2 ^ 64
-  pub pages : g .pages < 2 ^ 16
+  pub «page_size» : g .«page_size» < 2 ^ 16
+  pub «pointer_format» : g .«pointer_format» < 2 ^ 16
+  pub «segment_offset» : g .«segment_offset» < 2 ^ 64
+  pub «max_valid_pointer» : g .«max_valid_pointer» < 2 ^ 64
+  pub «page_count» : g .«page_count» < 2 ^ 16
   pub place : g .place < 2 ^ 64
   pub count : g .count < 2 ^ 64
 
@@ -116,11 +122,11 @@ typed-segment s b short w t =
     (λ inside.
     record {
       index = omega (arith, t .count);
-      size = omega (arith, field-below s 2 (at + 4) b);
-      format = omega (arith, field-below s 2 (at + 6) b);
-      offset = omega (arith, field-below s 8 (at + 8) b);
-      limit = omega (arith, field-below s 4 (at + 16) b);
-      pages = omega (arith, field-below s 2 (at + 20) b);
+      «page_size» = omega (arith, field-below s 2 (at + 4) b);
+      «pointer_format» = omega (arith, field-below s 2 (at + 6) b);
+      «segment_offset» = omega (arith, field-below s 8 (at + 8) b);
+      «max_valid_pointer» = omega (arith, field-below s 4 (at + 16) b);
+      «page_count» = omega (arith, field-below s 2 (at + 20) b);
       place = omega (arith, inside, short);
       count = omega (arith, inside, short);
     }))

@@ -7,8 +7,8 @@ use lib.ListN.{length}
 use Rattle.chains.specs.FixupChains.{offsetAt, thenStarts, recordAt}
 use Rattle.chains.specs.declared.Segment.{Segment}
 use Rattle.chains.specs.declared.SegmentWalk.{SegmentWalk}
-use Rattle.chains.specs.declared.record.Record.{Record}
-use Rattle.chains.specs.declared.record.Record.the-variants.{Found, Fault}
+use Rattle.chains.specs.declared.record.SegmentRead.{SegmentRead}
+use Rattle.chains.specs.declared.record.SegmentRead.the-variants.{Found, Fault}
 use Rattle.refusal.specs.Numbers.{numberOf}
 use Rattle.refusal.specs.declared.Refusal.the-variants.{FaultyChains, StateOutOfRange}
 use Rattle.runs.specs.Runs.{Begin, begun, notBegun, Answer, item, end, refused}
@@ -27,7 +27,7 @@ abbrev pub atIndex : (index : ℕ) → SegmentWalk → SegmentWalk
 atIndex index w = record { place = w .place; count = w .count; index = index }
 
 -- the answer for a record; `behind` is the state after its segment
-unfoldable pub recorded : (behind : SegmentWalk) → Record → Answer SegmentWalk Segment
+unfoldable pub recorded : (behind : SegmentWalk) → SegmentRead → Answer SegmentWalk Segment
 recorded behind (Found segment) = item segment behind
 recorded behind Fault = refused (numberOf FaultyChains) behind
 

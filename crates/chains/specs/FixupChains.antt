@@ -7,8 +7,8 @@ use lib.Dec.{ltb, eqb}
 use lib.ListN.{length}
 use Rattle.chains.specs.declared.Segment.{Segment}
 use Rattle.chains.specs.declared.header.Header.{Header}
-use Rattle.chains.specs.declared.record.Record.{Record}
-use Rattle.chains.specs.declared.record.Record.the-variants.{Found, Fault}
+use Rattle.chains.specs.declared.record.SegmentRead.{SegmentRead}
+use Rattle.chains.specs.declared.record.SegmentRead.the-variants.{Found, Fault}
 use Rattle.numbers.specs.LittleEndian.{littleEndian, fieldAt}
 use Rattle.numbers.specs.Then.{thenNumber}
 use Rattle.refusal.specs.Numbers.{numberOf}
@@ -31,13 +31,13 @@ headerAt s =
     (cond (not (eqb (littleEndian 4 s 0) 0)) (noHeader (numberOf UnknownVersion))
     (header
     (record {
-      version = littleEndian 4 s 0;  -- fixups_version
-      starts = littleEndian 4 s 4;  -- starts_offset
-      imports = littleEndian 4 s 8;  -- imports_offset
-      symbols = littleEndian 4 s 12;  -- symbols_offset
-      count = littleEndian 4 s 16;  -- imports_count
-      format = littleEndian 4 s 20;  -- imports_format
-      packing = littleEndian 4 s 24;  -- symbols_format
+      «fixups_version» = littleEndian 4 s 0;
+      «starts_offset» = littleEndian 4 s 4;
+      «imports_offset» = littleEndian 4 s 8;
+      «symbols_offset» = littleEndian 4 s 12;
+      «imports_count» = littleEndian 4 s 16;
+      «imports_format» = littleEndian 4 s 20;
+      «symbols_format» = littleEndian 4 s 24;
     })))
 
 unfoldable pub thenHeader : {A : Type 0} → HeaderAt → (refused : ℕ → A) → (Header → A) → A
@@ -55,8 +55,9 @@ unfoldable pub thenStarts : {A : Type 0} → List ℕ → (refused : ℕ → A) 
 thenStarts s refused go =
     thenHeader (headerAt s) refused
     (λ h.
-    thenNumber (fieldAt 4 s (h .starts)) (refused (numberOf FaultyChains))
-    (λ count at. cond (ltb (length s) (at + 4 * count)) (refused (numberOf FaultyChains)) (go (h .starts) count)))
+    thenNumber (fieldAt 4 s (h .«starts_offset»)) (refused (numberOf FaultyChains))
+    (λ count at.
+    cond (ltb (length s) (at + 4 * count)) (refused (numberOf FaultyChains)) (go (h .«starts_offset») count)))
 
 -- ---- dyld_chained_starts_in_segment
 
@@ -72,18 +73,18 @@ abbrev pub recordOf : List ℕ → (index at : ℕ) → Segment
 recordOf s index at =
     record {
       index = index;
-      size = littleEndian 2 s (at + 4);  -- page_size
-      format = littleEndian 2 s (at + 6);  -- pointer_format
-      offset = littleEndian 8 s (at + 8);  -- segment_offset
-      limit = littleEndian 4 s (at + 16);  -- max_valid_pointer
-      pages = littleEndian 2 s (at + 20);  -- page_count
+      «page_size» = littleEndian 2 s (at + 4);
+      «pointer_format» = littleEndian 2 s (at + 6);
+      «segment_offset» = littleEndian 8 s (at + 8);
+      «max_valid_pointer» = littleEndian 4 s (at + 16);
+      «page_count» = littleEndian 2 s (at + 20);
       place = at + recordSize;  -- page_start
       count = startsIn (littleEndian 4 s at);  -- by the record's own size, which comes first
     }
 
 -- the record at a place, of the segment of an index. It is faulty where its fields do not lie in the bytes, where its size is below theirs,
 -- or where its starts do not lie in the bytes
-unfoldable pub recordAt : List ℕ → (index at : ℕ) → Record
+unfoldable pub recordAt : List ℕ → (index at : ℕ) → SegmentRead
 recordAt s index at =
     cond (ltb (length s) (at + recordSize)) Fault
     (cond (ltb (littleEndian 4 s at) recordSize) Fault

@@ -2,4 +2,4 @@ pub mod FixupChains
 pub mod Listing
 pub mod Call
 pub mod Told
-pub mod Heard
+pub mod Hear

@@ -5,8 +5,8 @@ use mathlib.Core.List.{List}
 use lib.Dec.{eqb}
 use Rattle.chains.specs.FixupChains.{offsetAt, thenStarts, recordAt}
 use Rattle.chains.specs.declared.Segment.{Segment}
-use Rattle.chains.specs.declared.record.Record.{Record}
-use Rattle.chains.specs.declared.record.Record.the-variants.{Found, Fault}
+use Rattle.chains.specs.declared.record.SegmentRead.{SegmentRead}
+use Rattle.chains.specs.declared.record.SegmentRead.the-variants.{Found, Fault}
 use Rattle.refusal.specs.Numbers.{numberOf}
 use Rattle.refusal.specs.declared.Refusal.the-variants.{FaultyChains}
 use Rattle.runs.specs.Runs.{Run, stops, fails, gives}
@@ -16,7 +16,7 @@ pub data Entry (X : Type 0) : Type 0 where
   segment : X → Entry X
   refusal : (number : ℕ) → Entry X
 
-abbrev pub entry : Record → Entry Segment
+abbrev pub entry : SegmentRead → Entry Segment
 entry (Found x) = segment x
 entry Fault = refusal (numberOf FaultyChains)
 

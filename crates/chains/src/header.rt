@@ -5,16 +5,16 @@ ghost use Rattle.chains.specs.Told.{headerTold};
 use crate::fields::u32_at;
 use refusal::Refusal;
 
-// The version; where the starts, the imports and the symbols are; how many imports there are, and of
-// which format; and how the symbols are packed.
+// dyld_chained_fixups_header: the version; where the starts, the imports and the symbols are; how many
+// imports there are, and of which format; and how the symbols are packed.
 pub struct Header {
-    pub version: u64,
-    pub starts: u64,
-    pub imports: u64,
-    pub symbols: u64,
-    pub count: u64,
-    pub format: u64,
-    pub packing: u64,
+    pub fixups_version: u64,
+    pub starts_offset: u64,
+    pub imports_offset: u64,
+    pub symbols_offset: u64,
+    pub imports_count: u64,
+    pub imports_format: u64,
+    pub symbols_format: u64,
 }
 
 pub enum HeaderRead {
@@ -30,18 +30,18 @@ impl Header {
         if s.len() < 28 {
             return HeaderRead::Refused(Refusal::FaultyChains);
         }
-        let version = u32_at(s, 0);
-        if version != 0 {
+        let fixups_version = u32_at(s, 0);
+        if fixups_version != 0 {
             return HeaderRead::Refused(Refusal::UnknownVersion);
         }
         HeaderRead::Read(Header {
-            version,
-            starts: u32_at(s, 4),
-            imports: u32_at(s, 8),
-            symbols: u32_at(s, 12),
-            count: u32_at(s, 16),
-            format: u32_at(s, 20),
-            packing: u32_at(s, 24),
+            fixups_version,
+            starts_offset: u32_at(s, 4),
+            imports_offset: u32_at(s, 8),
+            symbols_offset: u32_at(s, 12),
+            imports_count: u32_at(s, 16),
+            imports_format: u32_at(s, 20),
+            symbols_format: u32_at(s, 24),
         })
     }
 }

@@ -17,22 +17,22 @@ use header::Header;
 use header::HeaderRead;
 use numbers::Number;
 use numbers::little_endian::read_u32;
-use record::Record;
+use record::SegmentRead;
 use record::read_record;
 use refusal::Refusal;
 
-// What is known of a segment's chains: its index, the size of its pages, the format of its pointers, its
-// offset in memory, the largest value that is a pointer (not applied), the number of its pages, and the
-// place and number of the starts in the lent bytes.
+// What is known of a segment's chains: its index, its offset in memory, the largest value that is a pointer
+// (not applied), the place and number of the starts in the lent bytes, the size of its pages, the format of
+// its pointers, and the number of its pages.
 pub struct Segment {
     pub index: u64,
-    pub size: u16,
-    pub format: u16,
-    pub offset: u64,
-    pub limit: u64,
-    pub pages: u16,
+    pub segment_offset: u64,
+    pub max_valid_pointer: u64,
     pub place: usize,
     pub count: u64,
+    pub page_size: u16,
+    pub pointer_format: u16,
+    pub page_count: u16,
 }
 
 // Where the starts are in the lent bytes, how many segments they have, and the index of the next.
@@ -48,9 +48,9 @@ pub enum SegmentStart {
 }
 
 pub enum SegmentStep {
-    Item(Segment, SegmentWalk),
+    Item(SegmentWalk, Segment),
     End(SegmentWalk),
-    Refused(Refusal, SegmentWalk),
+    Refused(SegmentWalk, Refusal),
 }
 
 impl SegmentWalk {
@@ -61,7 +61,7 @@ impl SegmentWalk {
         match Header::parse(s) {
             HeaderRead::Refused(e) => SegmentStart::Refused(e),
             HeaderRead::Read(header) => {
-                let place = header.starts as usize;
+                let place = header.starts_offset as usize;
                 let Number::Value(count, at) = read_u32(s, place) else {
                     return SegmentStart::Refused(Refusal::FaultyChains);
                 };
@@ -83,7 +83,7 @@ impl SegmentWalk {
         ensures { λ r. ⌜ told r ≡ call (now (s .entry)) self ⌝ }
     {
         if self.out_of_range(s.len()) {
-            return SegmentStep::Refused(Refusal::StateOutOfRange, self);
+            return SegmentStep::Refused(self, Refusal::StateOutOfRange);
         }
         let mut index = self.index;
         while index < self.count {
@@ -116,11 +116,11 @@ impl SegmentWalk {
         ensures { λ r. ⌜ told r ≡ recorded self (recordAt (now (s .entry)) index (self .place + offset)) ⌝ }
     {
         if ((s.len() - self.place) as u64) < offset {
-            return SegmentStep::Refused(Refusal::FaultyChains, self);
+            return SegmentStep::Refused(self, Refusal::FaultyChains);
         }
         match read_record(s, index, self.place + offset as usize) {
-            Record::Found(segment) => SegmentStep::Item(segment, self),
-            Record::Fault => SegmentStep::Refused(Refusal::FaultyChains, self),
+            SegmentRead::Found(segment) => SegmentStep::Item(self, segment),
+            SegmentRead::Fault => SegmentStep::Refused(self, Refusal::FaultyChains),
         }
     }
 

@@ -6,7 +6,7 @@ use crate::fields::u16_at;
 use crate::fields::u32_at;
 use crate::fields::u64_at;
 
-pub(crate) enum Record {
+pub(crate) enum SegmentRead {
     Found(Segment),
     Fault,
 }
@@ -15,32 +15,32 @@ pub(crate) enum Record {
 const SIZE: usize = 22;
 
 // The record at a place, of the segment of an index.
-pub(crate) fn read_record(s: &[u8], index: u64, at: usize) -> Record
+pub(crate) fn read_record(s: &[u8], index: u64, at: usize) -> SegmentRead
     ensures { λ r. ⌜ r ≡ recordAt (now (s .entry)) index at ⌝ }
 {
     if s.len() < at {
-        return Record::Fault;
+        return SegmentRead::Fault;
     }
     if s.len() - at < SIZE {
-        return Record::Fault;
+        return SegmentRead::Fault;
     }
     let size = u32_at(s, at);
     if size < SIZE as u64 {
-        return Record::Fault;
+        return SegmentRead::Fault;
     }
     let place = at + SIZE;
     let count = (size - SIZE as u64) / 2;
     if (((s.len() - place) / 2) as u64) < count {
-        return Record::Fault;
+        return SegmentRead::Fault;
     }
-    let pages = u16_at(s, at + 20);
-    Record::Found(Segment {
+    let page_count = u16_at(s, at + 20);
+    SegmentRead::Found(Segment {
         index,
-        size: u16_at(s, at + 4) as u16,
-        format: u16_at(s, at + 6) as u16,
-        offset: u64_at(s, at + 8),
-        limit: u32_at(s, at + 16),
-        pages: pages as u16,
+        page_size: u16_at(s, at + 4) as u16,
+        pointer_format: u16_at(s, at + 6) as u16,
+        segment_offset: u64_at(s, at + 8),
+        max_valid_pointer: u32_at(s, at + 16),
+        page_count: page_count as u16,
         place,
         count,
     })

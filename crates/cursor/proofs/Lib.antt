@@ -1,4 +1,3 @@
 pub mod Accord
 pub mod Turns
-pub mod Bounds
 pub mod Typed

@@ -1,6 +1,6 @@
--- A cursor: where a walk stands. `at` is the place in the stream where it reads on; `size` the pointer size; `offset` the offset in the
--- segment; of a repeat that is not yet all yielded `remaining` places are left, each `advance` from the one before it; `ended` says
--- that the walk was refused.
+-- A cursor: where a walk stands. `at` is the place in the stream where it reads on; of a repeat that is not yet all
+-- yielded `remaining` places are left, each `advance` from the one before it; `offset` is the offset in the segment;
+-- `size` the pointer size; `ended` says that the walk was refused.
 use Prim.Native.Nat.{ℕ, zero, suc, _+_, _%_, _^_}
 use mathlib.Core.Bool.{Bool, true, false, cond, _&&_, _||_}
 use lib.Dec.{leb, eqb}
@@ -23,7 +23,7 @@ isPointerSize size = eqb size 4 || eqb size 8
 -- ---- the start of a stream
 
 abbrev pub atStart : (size : ℕ) → Cursor
-atStart size = record { at = 0; size = size; remaining = 0; advance = 0; offset = 0; ended = false }
+atStart size = record { at = 0; remaining = 0; advance = 0; offset = 0; size = size; ended = false }
 
 unfoldable pub startOf : (size : ℕ) → Start
 startOf size = cond (isPointerSize size) (start.Begun (atStart size)) (start.Refused PointerSize)
@@ -35,10 +35,10 @@ abbrev pub behindPlace : Cursor → (left advance : ℕ) → Cursor
 behindPlace c left advance =
     record {
       at = c .at;
-      size = c .size;
       remaining = left;
       advance = advance;
       offset = (c .offset + advance) % 2 ^ 64;
+      size = c .size;
       ended = c .ended;
     }
 
@@ -58,10 +58,10 @@ abbrev pub markedEnded : Cursor → Cursor
 markedEnded c =
     record {
       at = c .at;
-      size = c .size;
       remaining = c .remaining;
       advance = c .advance;
       offset = c .offset;
+      size = c .size;
       ended = true;
     }
 
@@ -71,10 +71,10 @@ abbrev pub readTo : (next : ℕ) → Cursor → (offset : ℕ) → Cursor
 readTo next c offset =
     record {
       at = next;
-      size = c .size;
       remaining = c .remaining;
       advance = c .advance;
       offset = offset;
+      size = c .size;
       ended = c .ended;
     }
 

@@ -30,10 +30,10 @@ pub enum Turn {
 
 pub struct Cursor {
     pub at: usize,
-    pub size: u8,
     pub remaining: u64,
     pub advance: u64,
     pub offset: u64,
+    pub size: u8,
     pub ended: bool,
 }
 
@@ -95,10 +95,10 @@ impl Cursor {
         if is_pointer_size(size) {
             return Start::Begun(Cursor {
                 at: 0,
-                size,
                 remaining: 0,
                 advance: 0,
                 offset: 0,
+                size,
                 ended: false,
             });
         }

@@ -44,7 +44,7 @@ fn each_segment(start: SegmentWalk, s: &[u8], max: u64, lines: &mut [u8]) -> Lis
     let mut count: u64 = 0;
     while !out.broken {
         match w.step(s) {
-            SegmentStep::Item(x, next) => {
+            SegmentStep::Item(next, x) => {
                 if count == max {
                     return listed(out, count, Ending::Cut);
                 }
@@ -53,7 +53,7 @@ fn each_segment(start: SegmentWalk, s: &[u8], max: u64, lines: &mut [u8]) -> Lis
                 w = next;
             }
             SegmentStep::End(_) => return listed(out, count, Ending::End),
-            SegmentStep::Refused(e, next) => {
+            SegmentStep::Refused(next, e) => {
                 let index = wrapping_sub_u64(next.index, 1);
                 return listed(out, count, Ending::Refused(e, next.place as u64, index));
             }
@@ -64,15 +64,15 @@ fn each_segment(start: SegmentWalk, s: &[u8], max: u64, lines: &mut [u8]) -> Lis
 
 fn segment(lines: &mut [u8], out: Out, x: Segment) -> Out {
     let out = out.decimal(lines, b"segment ", 7, x.index);
-    let out = out.hex(lines, b"  offset ", 16, x.offset);
-    let out = out.decimal(lines, b"  format ", 5, x.format as u64);
+    let out = out.hex(lines, b"  offset ", 16, x.segment_offset);
+    let out = out.decimal(lines, b"  format ", 5, x.pointer_format as u64);
     paged(lines, out, x)
 }
 
 fn paged(lines: &mut [u8], out: Out, x: Segment) -> Out {
-    let out = out.hex(lines, b"  page ", 4, x.size as u64);
-    let out = out.decimal(lines, b"  pages ", 5, x.pages as u64);
-    let out = out.hex(lines, b"  limit ", 8, x.limit);
+    let out = out.hex(lines, b"  page ", 4, x.page_size as u64);
+    let out = out.decimal(lines, b"  pages ", 5, x.page_count as u64);
+    let out = out.hex(lines, b"  limit ", 8, x.max_valid_pointer);
     started(lines, out, x)
 }
 
@@ -107,7 +107,7 @@ fn each_import(start: ImportWalk, s: &[u8], max: u64, lines: &mut [u8]) -> List 
     let mut count: u64 = 0;
     while !out.broken {
         match w.step(s) {
-            ImportStep::Item(x, next) => {
+            ImportStep::Item(next, x) => {
                 if count == max {
                     return listed(out, count, Ending::Cut);
                 }
@@ -116,7 +116,7 @@ fn each_import(start: ImportWalk, s: &[u8], max: u64, lines: &mut [u8]) -> List 
                 w = next;
             }
             ImportStep::End(_) => return listed(out, count, Ending::End),
-            ImportStep::Refused(e, stood) => {
+            ImportStep::Refused(stood, e) => {
                 return listed(out, count, Ending::Refused(e, stood.place as u64, count));
             }
         }

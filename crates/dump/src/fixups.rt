@@ -79,14 +79,14 @@ fn find_from(start: SegmentWalk, s: &[u8], index: u64) -> Found {
     let mut left = start.count;
     while 0 < left {
         match w.step(s) {
-            SegmentStep::Item(g, next) => {
+            SegmentStep::Item(next, g) => {
                 if g.index == index {
                     return Found::Record(g);
                 }
                 w = next;
             }
             SegmentStep::End(_) => return Found::Not,
-            SegmentStep::Refused(e, next) => {
+            SegmentStep::Refused(next, e) => {
                 if wrapping_sub_u64(next.index, 1) == index {
                     return Found::Refused(e, next.place as u64, index);
                 }
@@ -111,7 +111,7 @@ fn each(start: PageWalk, s: &[u8], d: &[u8], max: u64, lines: &mut [u8]) -> List
     let mut count: u64 = 0;
     while !out.broken {
         match w.step(s, d) {
-            PageStep::Item(x, next) => {
+            PageStep::Item(next, x) => {
                 if count == max {
                     return listed(out, count, Ending::Cut);
                 }
@@ -120,7 +120,7 @@ fn each(start: PageWalk, s: &[u8], d: &[u8], max: u64, lines: &mut [u8]) -> List
                 w = next;
             }
             PageStep::End(_) => return listed(out, count, Ending::End),
-            PageStep::Refused(e, stood) => {
+            PageStep::Refused(stood, e) => {
                 return listed(out, count, Ending::Refused(e, place(stood), count));
             }
         }

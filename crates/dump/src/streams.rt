@@ -82,7 +82,7 @@ fn each_rebase(start: RebaseWalk, s: &[u8], max: u64, fault: Fault, lines: &mut 
     let mut count: u64 = 0;
     while !out.broken {
         match w.step(s) {
-            RebaseStep::Item(x, next) => {
+            RebaseStep::Item(next, x) => {
                 if count == max {
                     return listed(out, count, Ending::Cut);
                 }
@@ -91,7 +91,7 @@ fn each_rebase(start: RebaseWalk, s: &[u8], max: u64, fault: Fault, lines: &mut 
                 w = next;
             }
             RebaseStep::End(_) => return listed(out, count, Ending::End),
-            RebaseStep::Refused(e, stood) => {
+            RebaseStep::Refused(stood, e) => {
                 let place = fault.place(e, stood.cursor.at);
                 return listed(out, count, Ending::Refused(e, place, count));
             }
@@ -118,7 +118,7 @@ fn each_bind(start: BindWalk, s: &[u8], max: u64, fault: Fault, lines: &mut [u8]
     let mut count: u64 = 0;
     while !out.broken {
         match w.step(s) {
-            BindStep::Item(x, next) => {
+            BindStep::Item(next, x) => {
                 if count == max {
                     return listed(out, count, Ending::Cut);
                 }
@@ -127,7 +127,7 @@ fn each_bind(start: BindWalk, s: &[u8], max: u64, fault: Fault, lines: &mut [u8]
                 w = next;
             }
             BindStep::End(_) => return listed(out, count, Ending::End),
-            BindStep::Refused(e, stood) => {
+            BindStep::Refused(stood, e) => {
                 let place = fault.place(e, stood.cursor.at);
                 return listed(out, count, Ending::Refused(e, place, count));
             }

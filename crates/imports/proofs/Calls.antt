@@ -51,7 +51,7 @@ module _ (s : List ℕ) (w : ImportWalk) where
   unfolding next
   next-none e = sym (ap (next s w) e)
 
-  module _ (some : w .left ≡ 0 → ⊥) {r : ImportRead} (e : r ≡ importAt s (w .format) (w .symbols) (w .place)) where
+  module _ (some : w .left ≡ 0 → ⊥) {r : ImportRead} (e : r ≡ importAt s (w .«imports_format») (w .«symbols_offset») (w .place)) where
     one-more : w .left ≡ suc (w .left - 1)
     one-more = omega arith
 

@@ -13,12 +13,12 @@ use Rattle.chains.proofs.Headers.{both-headers}
 use Rattle.chains.specs.FixupChains.{headerAt}
 use Rattle.chains.specs.declared.header.Header.{Header}
 use Rattle.imports.specs.ChainedImports.{thenImports, signedAbove, narrow, wide, thenRecord}
-use Rattle.imports.specs.declared.record.Record.{Record}
-use Rattle.imports.specs.declared.record.RecordRead.{RecordRead}
-use Rattle.imports.specs.declared.record.RecordRead.the-variants.{Found, Refused}
+use Rattle.imports.specs.declared.record.ChainedImport.{ChainedImport}
+use Rattle.imports.specs.declared.record.ChainedImportRead.{ChainedImportRead}
+use Rattle.imports.specs.declared.record.ChainedImportRead.the-variants.{Found, Refused}
 use Rattle.numbers.proofs.Picks.{both-picks}
 use Rattle.numbers.proofs.Rows.{field-less}
-use Rattle.numbers.proofs.Runs.{none-passed}
+use Rattle.numbers.proofs.Spans.{none-passed}
 use Rattle.numbers.proofs.little_endian.Fields.{Bytes}
 use Rattle.numbers.proofs.strings.Nuls.{no-string}
 use Rattle.numbers.specs.LittleEndian.{fieldAt}
@@ -42,31 +42,31 @@ pub ruleset packings = (ne-not-eqb, eq-not-eqb)
 -- what holds of two definitions that go by the same imports
 module _ {A B : Type 0} (R : A → B → Type 0) where
   pub both-imports : (s : List ℕ) (e : ℕ → A) (go : Header → A) (d : ℕ → B) (to : Header → B) → ((n : ℕ) → R (e n) (d n)) →
-      ((h : Header) → h .imports ≤ length s → h .symbols ≤ length s → R (go h) (to h)) → R (thenImports s e go) (thenImports s d to)
+      ((h : Header) → h .«imports_offset» ≤ length s → h .«symbols_offset» ≤ length s → R (go h) (to h)) → R (thenImports s e go) (thenImports s d to)
   unfolding thenImports
   both-imports s e go d to p q =
       both-headers R (headerAt s) e _ d _ p
       (λ h.
-      both-picks R (not (eqb (h .packing) 0)) _ _ _ _ (λ t. p _)
+      both-picks R (not (eqb (h .«symbols_format») 0)) _ _ _ _ (λ t. p _)
       (λ u.
-      both-picks R (ltb (length s) (h .imports)) _ _ _ _ (λ t. p _)
+      both-picks R (ltb (length s) (h .«imports_offset»)) _ _ _ _ (λ t. p _)
       (λ i.
-      both-picks R (ltb (length s) (h .symbols)) _ _ _ _ (λ t. p _)
-      (λ j. q h (ltb-false (length s) (h .imports) i) (ltb-false (length s) (h .symbols) j)))))
+      both-picks R (ltb (length s) (h .«symbols_offset»)) _ _ _ _ (λ t. p _)
+      (λ j. q h (ltb-false (length s) (h .«imports_offset») i) (ltb-false (length s) (h .«symbols_offset») j)))))
 
 -- ---- a record
 
 module _ (n : ℕ) (addend : ℤ) {library : ℤ} where
   pub narrow-is : library ≡ signedAbove 0xf0 8 (n % 2 ^ 8) →
-      record { library = library; weak = eqb (n / 2 ^ 8 % 2) 1; name = n / 2 ^ 9 % 2 ^ 23; addend = addend } ≡ narrow n addend
+      record { library = library; weak = eqb (n / 2 ^ 8 % 2) 1; «name_offset» = n / 2 ^ 9 % 2 ^ 23; addend = addend } ≡ narrow n addend
   narrow-is e = rw (e, div-one n)
 
   pub wide-is : library ≡ signedAbove 0xfff0 16 (n % 2 ^ 16) →
-      record { library = library; weak = eqb (n / 2 ^ 16 % 2) 1; name = n / 2 ^ 32 % 2 ^ 32; addend = addend } ≡ wide n addend
+      record { library = library; weak = eqb (n / 2 ^ 16 % 2) 1; «name_offset» = n / 2 ^ 32 % 2 ^ 32; addend = addend } ≡ wide n addend
   wide-is e = rw (e, div-one n)
 
 -- with an addend that another function told
-module _ (n next : ℕ) {r : Record} {a b : ℤ} where
+module _ (n next : ℕ) {r : ChainedImport} {a b : ℤ} where
   pub narrow-with : r ≡ narrow n a → a ≡ b → Found r next ≡ Found (narrow n b) next
   narrow-with e f = rw (e, f)
 
@@ -83,9 +83,9 @@ other-format k e f = rw e f
 
 -- ---- what follows a record
 
-module _ {A : Type 0} (x : RecordRead) (refused : Refusal → A) (go : Record → ℕ → A) where
-  module _ {r : RecordRead} (e : r ≡ x) {y : A} where
-    pub record-found : {v : Record} {next : ℕ} → r ≡ Found v next → y ≡ go v next → y ≡ thenRecord x refused go
+module _ {A : Type 0} (x : ChainedImportRead) (refused : Refusal → A) (go : ChainedImport → ℕ → A) where
+  module _ {r : ChainedImportRead} (e : r ≡ x) {y : A} where
+    pub record-found : {v : ChainedImport} {next : ℕ} → r ≡ Found v next → y ≡ go v next → y ≡ thenRecord x refused go
     unfolding thenRecord
     record-found f q = rw (sym e ∙ f) q
 
@@ -93,11 +93,11 @@ module _ {A : Type 0} (x : RecordRead) (refused : Refusal → A) (go : Record �
     unfolding thenRecord
     record-refused f q = rw (sym e ∙ f) q
 
-  pub by-record : (P : A → Type 0) → ((d : Refusal) → P (refused d)) → ((v : Record) (next : ℕ) → x ≡ Found v next → P (go v next)) → P (thenRecord x refused go)
+  pub by-record : (P : A → Type 0) → ((d : Refusal) → P (refused d)) → ((v : ChainedImport) (next : ℕ) → x ≡ Found v next → P (go v next)) → P (thenRecord x refused go)
   unfolding thenRecord
   by-record P bad h = by x h
     where
-      by : (y : RecordRead) → ((v : Record) (next : ℕ) → y ≡ Found v next → P (go v next)) → P (thenRecord y refused go)
+      by : (y : ChainedImportRead) → ((v : ChainedImport) (next : ℕ) → y ≡ Found v next → P (go v next)) → P (thenRecord y refused go)
       by (Found v next) g = g v next refl
       by (Refused d) g = bad d
 

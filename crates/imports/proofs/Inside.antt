@@ -12,9 +12,9 @@ use Rattle.imports.specs.declared.Import.{Import}
 use Rattle.imports.specs.declared.ImportWalk.{ImportWalk}
 use Rattle.imports.specs.declared.record.ImportRead.{ImportRead}
 use Rattle.imports.specs.declared.record.ImportRead.the-variants as import
-use Rattle.imports.specs.declared.record.Record.{Record}
-use Rattle.imports.specs.declared.record.RecordRead.{RecordRead}
-use Rattle.imports.specs.declared.record.RecordRead.the-variants as read
+use Rattle.imports.specs.declared.record.ChainedImport.{ChainedImport}
+use Rattle.imports.specs.declared.record.ChainedImportRead.{ChainedImportRead}
+use Rattle.imports.specs.declared.record.ChainedImportRead.the-variants as read
 use Rattle.numbers.proofs.Laws.{string-read, part-length}
 use Rattle.numbers.proofs.Picks.{by-pick}
 use Rattle.numbers.proofs.Rows.{field-inside}
@@ -28,7 +28,7 @@ use Rattle.imports.proofs.Imports.{by-record}
 
 -- ---- what holds of whatever is read
 
-abbrev pub IfRecord : (Record → (next : ℕ) → Type 0) → RecordRead → Type 0
+abbrev pub IfRecord : (ChainedImport → (next : ℕ) → Type 0) → ChainedImportRead → Type 0
 IfRecord P (read.Found r next) = P r next
 IfRecord P (read.Refused e) = Unit {0}
 
@@ -37,12 +37,12 @@ IfImport Q (import.Found x next) = Q x next
 IfImport Q (import.Refused e) = Unit {0}
 
 -- of a record of each format, by its last field
-pub record Formats (s : List ℕ) (P : Record → (next : ℕ) → Type 0) : Type 0 where
+pub record Formats (s : List ℕ) (P : ChainedImport → (next : ℕ) → Type 0) : Type 0 where
   pub plain : (n at next : ℕ) → fieldAt 4 s at ≡ Value n next → P (narrow n (pos 0)) next
   pub addend : (n a at next : ℕ) → fieldAt 4 s at ≡ Value a next → P (narrow n (signedAbove (2 ^ 31 - 1) 32 a)) next
   pub addend64 : (n a at next : ℕ) → fieldAt 8 s at ≡ Value a next → P (wide n (signedAbove (2 ^ 63 - 1) 64 a)) next
 
-module _ (s : List ℕ) (P : Record → (next : ℕ) → Type 0) (k : Formats s P) where
+module _ (s : List ℕ) (P : ChainedImport → (next : ℕ) → Type 0) (k : Formats s P) where
   module _ (at : ℕ) where
     by-plain : IfRecord P (plainAt s at)
     unfolding plainAt
@@ -68,19 +68,19 @@ module _ (s : List ℕ) (P : Record → (next : ℕ) → Type 0) (k : Formats s 
         (by-pick (IfRecord P) (eqb format 3) _ _ by-addend64 tt))
 
   -- of an import: its name lies in the bytes, with the NUL
-  pub by-import : (Q : Import → (next : ℕ) → Type 0) → ((r : Record) (next place len : ℕ) → P r next → place + len < length s → Q (named r place len) next) →
+  pub by-import : (Q : Import → (next : ℕ) → Type 0) → ((r : ChainedImport) (next place len : ℕ) → P r next → place + len < length s → Q (named r place len) next) →
       (format symbols at : ℕ) → IfImport Q (importAt s format symbols at)
   unfolding importAt
   by-import Q q format symbols at =
       by-record (recordAt s format at) _ _ (IfImport Q) (λ d. tt)
       (λ r next e.
-      by-text (stringAt s (symbols + r .name)) _ _ (IfImport Q) tt
+      by-text (stringAt s (symbols + r .«name_offset»)) _ _ (IfImport Q) tt
       (λ place len behind f.
-      let t = string-read s (symbols + r .name) refl f in
+      let t = string-read s (symbols + r .«name_offset») refl f in
       q r next place len (subst (IfRecord P) e (by-format at format)) (omega (arith, t .ends, t .within .inside))))
 
 -- of an import that is yielded, which is read up to the place of the next state
-module _ (s : List ℕ) (w : ImportWalk) (Q : Import → (next : ℕ) → Type 0) (holds : IfImport Q (importAt s (w .format) (w .symbols) (w .place))) where
+module _ (s : List ℕ) (w : ImportWalk) (Q : Import → (next : ℕ) → Type 0) (holds : IfImport Q (importAt s (w .«imports_format») (w .«symbols_offset») (w .place))) where
   abbrev Yields : Answer ImportWalk Import → Type 0
   Yields (item x v) = Q x (v .place)
   Yields (end v) = Unit {0}
@@ -94,13 +94,13 @@ module _ (s : List ℕ) (w : ImportWalk) (Q : Import → (next : ℕ) → Type 0
   next-yields : (n : ℕ) → Yields (next s w n)
   unfolding next
   next-yields zero = tt
-  next-yields (suc n) = imported-yields n (importAt s (w .format) (w .symbols) (w .place)) holds
+  next-yields (suc n) = imported-yields n (importAt s (w .«imports_format») (w .«symbols_offset») (w .place)) holds
 
   pub yielded : {x : Import} {v : ImportWalk} → call s w ≡ item x v → Q x (v .place)
   unfolding call
   yielded e =
       subst Yields e
-      (by-pick Yields (outOfRange (w .place) (w .symbols) (length s)) _ _ tt (by-pick Yields (w .ended) _ _ tt (next-yields (w .left))))
+      (by-pick Yields (outOfRange (w .place) (w .«symbols_offset») (length s)) _ _ tt (by-pick Yields (w .ended) _ _ tt (next-yields (w .left))))
 
 -- ---- what is read lies in the bytes
 
@@ -122,5 +122,5 @@ module _ (s : List ℕ) where
   -- a call, from any state: `name` hands back the whole name
   pub named-whole : (w : ImportWalk) {x : Import} {v : ImportWalk} → call s w ≡ item x v → length (partOf s (x .place) (x .length)) ≡ x .length
   named-whole w {x} e =
-      let i = yielded s w Inside (import-inside (w .format) (w .symbols) (w .place)) e in
+      let i = yielded s w Inside (import-inside (w .«imports_format») (w .«symbols_offset») (w .place)) e in
       part-length s (x .place) (x .length) (omega (arith, i .name))

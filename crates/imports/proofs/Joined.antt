@@ -7,7 +7,7 @@ use mathlib.Core.List.{List}
 use lib.ListN.{length}
 use Rattle.imports.specs.Call.{begin, imported, next, call}
 use Rattle.imports.specs.ChainedImports.{importAt}
-use Rattle.imports.specs.Listing.{before, imports, listing}
+use Rattle.imports.specs.Listing.{thenRest, imports, listing}
 use Rattle.imports.specs.declared.Import.{Import}
 use Rattle.imports.specs.declared.ImportWalk.{ImportWalk}
 use Rattle.imports.specs.declared.record.ImportRead.{ImportRead}
@@ -22,12 +22,12 @@ use Rattle.imports.proofs.Kept.{in-range-call}
 module _ (s : List ℕ) where
   -- a walk that goes on
   pub record Going (w : ImportWalk) : Type 0 where
-    pub range : InRange (w .place) (w .symbols) (length s)
+    pub range : InRange (w .place) (w .«symbols_offset») (length s)
     pub live : w .ended ≡ false
 
   -- what is ahead of a state
   abbrev pub ahead : ImportWalk → Run Import
-  ahead w = imports s (w .format) (w .symbols) (w .left) (w .place)
+  ahead w = imports s (w .«imports_format») (w .«symbols_offset») (w .left) (w .place)
 
   -- ---- a call
 
@@ -36,15 +36,15 @@ module _ (s : List ℕ) where
     going-call g =
         in-range-call s w (g .range) ∙ ap (λ (t : Bool). cond t (end w) (next s w (w .left))) (g .live)
 
-    says-read : (n : ℕ) (x : ImportRead) → before (imports s (w .format) (w .symbols) n) x ≡ shown ahead (imported w n x)
-    unfolding before imported
+    says-read : (n : ℕ) (x : ImportRead) → thenRest (imports s (w .«imports_format») (w .«symbols_offset») n) x ≡ shown ahead (imported w n x)
+    unfolding thenRest imported
     says-read n (Found x at) = refl
     says-read n (Refused e) = refl
 
-    says-next : (n : ℕ) → imports s (w .format) (w .symbols) n (w .place) ≡ shown ahead (next s w n)
+    says-next : (n : ℕ) → imports s (w .«imports_format») (w .«symbols_offset») n (w .place) ≡ shown ahead (next s w n)
     unfolding imports next
     says-next zero = refl
-    says-next (suc n) = says-read n (importAt s (w .format) (w .symbols) (w .place))
+    says-next (suc n) = says-read n (importAt s (w .«imports_format») (w .«symbols_offset») (w .place))
 
     says : Going w → ahead w ≡ shown ahead (call s w)
     says g = says-next (w .left) ∙ ap (shown ahead) (sym (going-call g))
@@ -59,7 +59,7 @@ module _ (s : List ℕ) where
     unfolding next
     stays-next g zero = tt
     stays-next g (suc n) =
-        stays-read g n (importAt s (w .format) (w .symbols) (w .place)) (import-inside s (w .format) (w .symbols) (w .place))
+        stays-read g n (importAt s (w .«imports_format») (w .«symbols_offset») (w .place)) (import-inside s (w .«imports_format») (w .«symbols_offset») (w .place))
 
     stays : Going w → Stays Going (call s w)
     stays g = subst (Stays Going) (sym (going-call g)) (stays-next g (w .left))

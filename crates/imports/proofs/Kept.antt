@@ -19,14 +19,14 @@ use Rattle.imports.proofs.Calls.{InRange, none-out}
 
 module _ (s : List ℕ) (w : ImportWalk) where
   -- a state out of range is refused, 19, and comes back as it came
-  pub out-of-range : outOfRange (w .place) (w .symbols) (length s) ≡ true → call s w ≡ refused (numberOf StateOutOfRange) w
+  pub out-of-range : outOfRange (w .place) (w .«symbols_offset») (length s) ≡ true → call s w ≡ refused (numberOf StateOutOfRange) w
   unfolding call
   out-of-range e = rw e
 
-  module _ (i : InRange (w .place) (w .symbols) (length s)) where
+  module _ (i : InRange (w .place) (w .«symbols_offset») (length s)) where
     pub in-range-call : call s w ≡ cond (w .ended) (end w) (next s w (w .left))
     unfolding call
-    in-range-call = rw (none-out (w .place) (w .symbols) (length s) i)
+    in-range-call = rw (none-out (w .place) (w .«symbols_offset») (length s) i)
 
     abbrev Marked : Answer ImportWalk Import → Type 0
     Marked = IfRefused (λ v. v ≡ marked w)
@@ -39,7 +39,7 @@ module _ (s : List ℕ) (w : ImportWalk) where
     refused-next : (n : ℕ) → Marked (next s w n)
     unfolding next
     refused-next zero = tt
-    refused-next (suc n) = refused-read n (importAt s (w .format) (w .symbols) (w .place))
+    refused-next (suc n) = refused-read n (importAt s (w .«imports_format») (w .«symbols_offset») (w .place))
 
     -- any other refusal hands back the state as given, marked as ended
     pub marked-ended : {number : ℕ} {v : ImportWalk} → call s w ≡ refused number v → v ≡ marked w
@@ -47,9 +47,9 @@ module _ (s : List ℕ) (w : ImportWalk) where
         subst Marked (sym in-range-call ∙ e) (by-pick Marked (w .ended) _ _ tt (refused-next (w .left)))
 
     -- and it says End ever after, whatever bytes are lent, where it is in range of them
-    pub kept : {number : ℕ} {v : ImportWalk} → call s w ≡ refused number v → (t : List ℕ) → InRange (w .place) (w .symbols) (length t) → call t v ≡ end v
+    pub kept : {number : ℕ} {v : ImportWalk} → call s w ≡ refused number v → (t : List ℕ) → InRange (w .place) (w .«symbols_offset») (length t) → call t v ≡ end v
     unfolding call
-    kept e t j = rw (marked-ended e, none-out (w .place) (w .symbols) (length t) j)
+    kept e t j = rw (marked-ended e, none-out (w .place) (w .«symbols_offset») (length t) j)
 
     -- ---- the end
 
@@ -66,7 +66,7 @@ module _ (s : List ℕ) (w : ImportWalk) where
     same-next : (n : ℕ) → Same (next s w n)
     unfolding next
     same-next zero = refl
-    same-next (suc n) = same-read n (importAt s (w .format) (w .symbols) (w .place))
+    same-next (suc n) = same-read n (importAt s (w .«imports_format») (w .«symbols_offset») (w .place))
 
     -- End hands back the state as given
     pub end-same : {v : ImportWalk} → call s w ≡ end v → v ≡ w

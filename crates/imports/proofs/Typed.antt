@@ -19,7 +19,7 @@ use Rattle.imports.specs.declared.Import.{Import}
 use Rattle.imports.specs.declared.ImportWalk.{ImportWalk}
 use Rattle.imports.specs.declared.record.ImportRead.{ImportRead}
 use Rattle.imports.specs.declared.record.ImportRead.the-variants.{Found, Refused}
-use Rattle.imports.specs.declared.record.Record.{Record}
+use Rattle.imports.specs.declared.record.ChainedImport.{ChainedImport}
 use Rattle.numbers.proofs.Picks.{by-pick}
 use Rattle.numbers.proofs.Rows.{field-less}
 use Rattle.numbers.proofs.little_endian.Fields.{Bytes}
@@ -38,22 +38,22 @@ pub record TypedImport (x : Import) : Type 0 where
   pub place : x .place < 2 ^ 64
   pub length : x .length < 2 ^ 64
 
-record TypedRecord (r : Record) : Type 0 where
+record TypedFields (r : ChainedImport) : Type 0 where
   library : SFits w32 (r .library)
   addend : SFits w64 (r .addend)
 
 module _ (n : ℕ) {addend : ℤ} (h : SFits w64 addend) where
-  typed-narrow : TypedRecord (narrow n addend)
+  typed-narrow : TypedFields (narrow n addend)
   typed-narrow = record { library = library-fits (bits 0 8 n) 0xf0 0xff refl (omega arith) (omega arith); addend = h }
 
-  typed-wide : TypedRecord (wide n addend)
+  typed-wide : TypedFields (wide n addend)
   typed-wide = record { library = library-fits (bits 0 16 n) 0xfff0 0xffff refl (omega arith) (omega arith); addend = h }
 
 -- every one that is yielded has fields such as their types have
 pub typed-item : (s : List ℕ) → Bytes s → length s < 2 ^ 64 → (w : ImportWalk) {x : Import} {v : ImportWalk} → call s w ≡ item x v → TypedImport x
 typed-item s b short w =
     yielded s w (λ x next. TypedImport x)
-    (by-import s (λ r next. TypedRecord r)
+    (by-import s (λ r next. TypedFields r)
     (record {
       plain = λ n at next e. typed-narrow n (record { sfits = omega arith });
       addend = λ n a at next e. typed-narrow n (addend-fits a (2 ^ 31 - 1) (2 ^ 32 - 1) (omega (arith, field-less 4 s at refl e b)) (omega arith) (omega arith));
@@ -61,15 +61,15 @@ typed-item s b short w =
     })
     (λ x next. TypedImport x)
     (λ r next place len t l. record { library = t .library; addend = t .addend; place = omega (arith, short); length = omega (arith, short) })
-    (w .format) (w .symbols) (w .place))
+    (w .«imports_format») (w .«symbols_offset») (w .place))
 
 -- ---- a state
 
 pub record Typed (w : ImportWalk) : Type 0 where
   pub place : w .place < 2 ^ 64
-  pub symbols : w .symbols < 2 ^ 64
+  pub «symbols_offset» : w .«symbols_offset» < 2 ^ 64
   pub left : w .left < 2 ^ 64
-  pub format : w .format < 2 ^ 64
+  pub «imports_format» : w .«imports_format» < 2 ^ 64
 
 -- a start
 pub typed-begin : (s : List ℕ) → Bytes s → {w : ImportWalk} → begin s ≡ begun w → Typed w
@@ -79,10 +79,10 @@ typed-begin s b e =
     (by-header (headerAt s) _ _ (IfBegun Typed) (λ n. tt)
     (λ h i.
     let t = typed-header s b i in
-    by-pick (IfBegun Typed) (not (eqb (h .packing) 0)) _ _ tt
-    (by-pick (IfBegun Typed) (ltb (length s) (h .imports)) _ _ tt
-    (by-pick (IfBegun Typed) (ltb (length s) (h .symbols)) _ _ tt
-    (record { place = t .imports; symbols = t .symbols; left = t .count; format = t .format })))))
+    by-pick (IfBegun Typed) (not (eqb (h .«symbols_format») 0)) _ _ tt
+    (by-pick (IfBegun Typed) (ltb (length s) (h .«imports_offset»)) _ _ tt
+    (by-pick (IfBegun Typed) (ltb (length s) (h .«symbols_offset»)) _ _ tt
+    (record { place = t .«imports_offset»; «symbols_offset» = t .«symbols_offset»; left = t .«imports_count»; «imports_format» = t .«imports_format» })))))
 
 -- a call
 module _ (s : List ℕ) (short : length s < 2 ^ 64) (w : ImportWalk) (t : Typed w) where
@@ -90,22 +90,22 @@ module _ (s : List ℕ) (short : length s < 2 ^ 64) (w : ImportWalk) (t : Typed 
   Good = Hands Typed IsNumber
 
   ended : Typed (marked w)
-  ended = record { place = t .place; symbols = t .symbols; left = t .left; format = t .format }
+  ended = record { place = t .place; «symbols_offset» = t .«symbols_offset»; left = t .left; «imports_format» = t .«imports_format» }
 
   good-import : (left : ℕ) → left < 2 ^ 64 → (x : ImportRead) → IfImport (Inside s) x → Good (imported w left x)
   unfolding imported
   good-import left h (Found x at) i =
-      record { place = omega (arith, i .ends, short); symbols = t .symbols; left = h; format = t .format }
+      record { place = omega (arith, i .ends, short); «symbols_offset» = t .«symbols_offset»; left = h; «imports_format» = t .«imports_format» }
   good-import left h (Refused e) i = (ended, is-number e)
 
   good-next : (n : ℕ) → n < 2 ^ 64 → Good (next s w n)
   unfolding next
   good-next zero h = t
   good-next (suc n) h =
-      good-import n (omega arith) (importAt s (w .format) (w .symbols) (w .place)) (import-inside s (w .format) (w .symbols) (w .place))
+      good-import n (omega arith) (importAt s (w .«imports_format») (w .«symbols_offset») (w .place)) (import-inside s (w .«imports_format») (w .«symbols_offset») (w .place))
 
   pub typed-call : Good (call s w)
   unfolding call
   typed-call =
-      by-pick Good (outOfRange (w .place) (w .symbols) (length s)) _ _ (t, is-number StateOutOfRange)
+      by-pick Good (outOfRange (w .place) (w .«symbols_offset») (length s)) _ _ (t, is-number StateOutOfRange)
       (by-pick Good (w .ended) _ _ t (good-next (w .left) (t .left)))

@@ -17,7 +17,14 @@ use Rattle.runs.specs.Runs.{Begin, begun, notBegun, Answer, item, end, refused}
 -- ---- a start
 
 abbrev pub atStart : Header → ImportWalk
-atStart h = record { place = h .imports; symbols = h .symbols; left = h .count; format = h .format; ended = false }
+atStart h =
+    record {
+      place = h .«imports_offset»;
+      «symbols_offset» = h .«symbols_offset»;
+      left = h .«imports_count»;
+      «imports_format» = h .«imports_format»;
+      ended = false;
+    }
 
 -- the format is not tested here: with no imports, any will do
 unfoldable pub begin : List ℕ → Begin ImportWalk
@@ -26,11 +33,25 @@ begin s = thenImports s notBegun (λ h. begun (atStart h))
 -- ---- a call
 
 abbrev pub marked : ImportWalk → ImportWalk
-marked w = record { place = w .place; symbols = w .symbols; left = w .left; format = w .format; ended = true }
+marked w =
+    record {
+      place = w .place;
+      «symbols_offset» = w .«symbols_offset»;
+      left = w .left;
+      «imports_format» = w .«imports_format»;
+      ended = true;
+    }
 
 -- the next import is read up to a place, and so many are left
 abbrev pub passed : (next left : ℕ) → ImportWalk → ImportWalk
-passed next left w = record { place = next; symbols = w .symbols; left = left; format = w .format; ended = w .ended }
+passed next left w =
+    record {
+      place = next;
+      «symbols_offset» = w .«symbols_offset»;
+      left = left;
+      «imports_format» = w .«imports_format»;
+      ended = w .ended;
+    }
 
 unfoldable pub imported : ImportWalk → (left : ℕ) → ImportRead → Answer ImportWalk Import
 imported w left (Found x next) = item x (passed next left w)
@@ -38,7 +59,7 @@ imported w left (Refused e) = refused (numberOf e) (marked w)
 
 unfoldable pub next : List ℕ → ImportWalk → (n : ℕ) → Answer ImportWalk Import
 next s w zero = end w
-next s w (suc left) = imported w left (importAt s (w .format) (w .symbols) (w .place))
+next s w (suc left) = imported w left (importAt s (w .«imports_format») (w .«symbols_offset») (w .place))
 
 -- 19: a place to read at is beyond the bytes
 abbrev pub outOfRange : (place symbols len : ℕ) → Bool
@@ -46,6 +67,6 @@ outOfRange place symbols len = ltb len place || ltb len symbols
 
 unfoldable pub call : List ℕ → ImportWalk → Answer ImportWalk Import
 call s w =
-    cond (outOfRange (w .place) (w .symbols) (length s)) (refused (numberOf StateOutOfRange) w)
+    cond (outOfRange (w .place) (w .«symbols_offset») (length s)) (refused (numberOf StateOutOfRange) w)
     (cond (w .ended) (end w)
     (next s w (w .left)))

@@ -10,9 +10,9 @@ use Rattle.chains.specs.declared.header.Header.{Header}
 use Rattle.imports.specs.declared.Import.{Import}
 use Rattle.imports.specs.declared.record.ImportRead.{ImportRead}
 use Rattle.imports.specs.declared.record.ImportRead.the-variants as import
-use Rattle.imports.specs.declared.record.Record.{Record}
-use Rattle.imports.specs.declared.record.RecordRead.{RecordRead}
-use Rattle.imports.specs.declared.record.RecordRead.the-variants as read
+use Rattle.imports.specs.declared.record.ChainedImport.{ChainedImport}
+use Rattle.imports.specs.declared.record.ChainedImportRead.{ChainedImportRead}
+use Rattle.imports.specs.declared.record.ChainedImportRead.the-variants as read
 use Rattle.numbers.specs.LittleEndian.{fieldAt}
 use Rattle.numbers.specs.Strings.{stringAt}
 use Rattle.numbers.specs.Then.{thenNumber, thenText}
@@ -27,9 +27,9 @@ unfoldable pub thenImports : {A : Type 0} → List ℕ → (refused : ℕ → A)
 thenImports s refused go =
     thenHeader (headerAt s) refused
     (λ h.
-    cond (not (eqb (h .packing) 0)) (refused (numberOf UnsupportedFormat))
-    (cond (ltb (length s) (h .imports)) (refused (numberOf FaultyImport))
-    (cond (ltb (length s) (h .symbols)) (refused (numberOf FaultyImport))
+    cond (not (eqb (h .«symbols_format») 0)) (refused (numberOf UnsupportedFormat))
+    (cond (ltb (length s) (h .«imports_offset»)) (refused (numberOf FaultyImport))
+    (cond (ltb (length s) (h .«symbols_offset»)) (refused (numberOf FaultyImport))
     (go h))))
 
 -- ---- records
@@ -40,47 +40,47 @@ signedAbove bound width n = cond (ltb bound n) (pos n -ℤ pos (2 ^ width)) (pos
 
 -- DYLD_CHAINED_IMPORT and DYLD_CHAINED_IMPORT_ADDEND: four bytes. Libraries above 0xf0 are the special ones
 -- lib_ordinal 8, weak_import 1, name_offset 23
-abbrev pub narrow : (n : ℕ) → (addend : ℤ) → Record
+abbrev pub narrow : (n : ℕ) → (addend : ℤ) → ChainedImport
 narrow n addend =
     record {
       library = signedAbove 0xf0 8 (bits 0 8 n);  -- lib_ordinal
       weak = eqb (bits 8 1 n) 1;  -- weak_import
-      name = bits 9 23 n;  -- name_offset
+      «name_offset» = bits 9 23 n;
       addend = addend;
     }
 
 -- DYLD_CHAINED_IMPORT_ADDEND64: eight bytes, and libraries above 0xfff0
 -- lib_ordinal 16, weak_import 1, reserved 15, name_offset 32
-abbrev pub wide : (n : ℕ) → (addend : ℤ) → Record
+abbrev pub wide : (n : ℕ) → (addend : ℤ) → ChainedImport
 wide n addend =
     record {
       library = signedAbove 0xfff0 16 (bits 0 16 n);  -- lib_ordinal
       weak = eqb (bits 16 1 n) 1;  -- weak_import
-      name = bits 32 32 n;  -- name_offset, above 15 bits that are reserved
+      «name_offset» = bits 32 32 n;  -- above 15 bits that are reserved
       addend = addend;
     }
 
-abbrev pub noRecord : RecordRead
+abbrev pub noRecord : ChainedImportRead
 noRecord = read.Refused FaultyImport
 
 -- format 1: the fields alone
-unfoldable pub plainAt : List ℕ → ℕ → RecordRead
+unfoldable pub plainAt : List ℕ → ℕ → ChainedImportRead
 plainAt s at = thenNumber (fieldAt 4 s at) noRecord (λ n next. read.Found (narrow n (pos 0)) next)
 
 -- format 2: the fields, then an int32_t addend
-unfoldable pub addendAt : List ℕ → ℕ → RecordRead
+unfoldable pub addendAt : List ℕ → ℕ → ChainedImportRead
 addendAt s at =
     thenNumber (fieldAt 4 s at) noRecord
     (λ n at. thenNumber (fieldAt 4 s at) noRecord (λ a next. read.Found (narrow n (signedAbove (2 ^ 31 - 1) 32 a)) next))
 
 -- format 3: the fields, then a uint64_t addend, read as signed
-unfoldable pub addend64At : List ℕ → ℕ → RecordRead
+unfoldable pub addend64At : List ℕ → ℕ → ChainedImportRead
 addend64At s at =
     thenNumber (fieldAt 8 s at) noRecord
     (λ n at. thenNumber (fieldAt 8 s at) noRecord (λ a next. read.Found (wide n (signedAbove (2 ^ 63 - 1) 64 a)) next))
 
 -- the record of a format at a place, and the place behind it
-unfoldable pub recordAt : List ℕ → (format at : ℕ) → RecordRead
+unfoldable pub recordAt : List ℕ → (format at : ℕ) → ChainedImportRead
 recordAt s format at =
     cond (eqb format 1) (plainAt s at)  -- DYLD_CHAINED_IMPORT
     (cond (eqb format 2) (addendAt s at)  -- DYLD_CHAINED_IMPORT_ADDEND
@@ -89,15 +89,18 @@ recordAt s format at =
 
 -- ---- an import: a record, and the name at its offset in the symbols
 
-unfoldable pub thenRecord : {A : Type 0} → RecordRead → (refused : Refusal → A) → (Record → (next : ℕ) → A) → A
+unfoldable pub thenRecord : {A : Type 0} → ChainedImportRead → (refused : Refusal → A) →
+    (ChainedImport → (next : ℕ) → A) → A
 thenRecord (read.Found r next) refused go = go r next
 thenRecord (read.Refused e) refused go = refused e
 
-abbrev pub named : Record → (place len : ℕ) → Import
+abbrev pub named : ChainedImport → (place len : ℕ) → Import
 named r place len =
     record { library = r .library; weak = r .weak; addend = r .addend; place = place; length = len }
 
 unfoldable pub importAt : List ℕ → (format symbols at : ℕ) → ImportRead
 importAt s format symbols at =
     thenRecord (recordAt s format at) import.Refused
-    (λ r next. thenText (stringAt s (symbols + r .name)) (import.Refused FaultyImport) (λ place len behind. import.Found (named r place len) next))
+    (λ r next.
+    thenText (stringAt s (symbols + r .«name_offset»)) (import.Refused FaultyImport)
+    (λ place len behind. import.Found (named r place len) next))

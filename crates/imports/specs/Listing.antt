@@ -9,14 +9,16 @@ use Rattle.refusal.specs.Numbers.{numberOf}
 use Rattle.runs.specs.Runs.{Run, stops, fails, gives}
 
 -- an import that was read, and then the rest, from the place behind it on
-unfoldable pub before : (rest : ℕ → Run Import) → ImportRead → Run Import
-before rest (Found x next) = gives x (rest next)
-before rest (Refused e) = fails (numberOf e)
+unfoldable pub thenRest : (rest : ℕ → Run Import) → ImportRead → Run Import
+thenRest rest (Found x next) = gives x (rest next)
+thenRest rest (Refused e) = fails (numberOf e)
 
 -- n imports from a place on
 unfoldable pub imports : List ℕ → (format symbols n at : ℕ) → Run Import
 imports s format symbols zero at = stops
-imports s format symbols (suc n) at = before (imports s format symbols n) (importAt s format symbols at)
+imports s format symbols (suc n) at = thenRest (imports s format symbols n) (importAt s format symbols at)
 
 unfoldable pub listing : List ℕ → Run Import
-listing s = thenImports s fails (λ h. imports s (h .format) (h .symbols) (h .count) (h .imports))
+listing s =
+    thenImports s fails
+    (λ h. imports s (h .«imports_format») (h .«symbols_offset») (h .«imports_count») (h .«imports_offset»))

@@ -17,23 +17,23 @@ use record::ImportRead;
 use record::read_import;
 use refusal::Refusal;
 
-// A symbol that is imported: the library that it is taken from, whether it may be missing, the addend,
-// and the place and length of its name in the lent bytes.
+// A symbol that is imported: the addend, the place and length of its name in the lent bytes, the library
+// that it is taken from, and whether it may be missing.
 pub struct Import {
-    pub library: i32,
-    pub weak: bool,
     pub addend: i64,
     pub place: usize,
     pub length: usize,
+    pub library: i32,
+    pub weak: bool,
 }
 
 // Where the next import is read, where the symbols are, how many imports are left, and their format;
 // and whether the walk has ended by a refusal.
 pub struct ImportWalk {
     pub place: usize,
-    pub symbols: usize,
+    pub symbols_offset: usize,
     pub left: u64,
-    pub format: u64,
+    pub imports_format: u64,
     pub ended: bool,
 }
 
@@ -43,9 +43,9 @@ pub enum ImportStart {
 }
 
 pub enum ImportStep {
-    Item(Import, ImportWalk),
+    Item(ImportWalk, Import),
     End(ImportWalk),
-    Refused(Refusal, ImportWalk),
+    Refused(ImportWalk, Refusal),
 }
 
 impl Import {
@@ -65,20 +65,20 @@ impl ImportWalk {
         match Header::parse(s) {
             HeaderRead::Refused(e) => ImportStart::Refused(e),
             HeaderRead::Read(header) => {
-                if header.packing != 0 {
+                if header.symbols_format != 0 {
                     return ImportStart::Refused(Refusal::UnsupportedFormat);
                 }
-                if (s.len() as u64) < header.imports {
+                if (s.len() as u64) < header.imports_offset {
                     return ImportStart::Refused(Refusal::FaultyImport);
                 }
-                if (s.len() as u64) < header.symbols {
+                if (s.len() as u64) < header.symbols_offset {
                     return ImportStart::Refused(Refusal::FaultyImport);
                 }
                 ImportStart::Begun(ImportWalk {
-                    place: header.imports as usize,
-                    symbols: header.symbols as usize,
-                    left: header.count,
-                    format: header.format,
+                    place: header.imports_offset as usize,
+                    symbols_offset: header.symbols_offset as usize,
+                    left: header.imports_count,
+                    imports_format: header.imports_format,
                     ended: false,
                 })
             }
@@ -90,7 +90,7 @@ impl ImportWalk {
         ensures { λ r. ⌜ told r ≡ call (now (s .entry)) self ⌝ }
     {
         if self.out_of_range(s.len()) {
-            return ImportStep::Refused(Refusal::StateOutOfRange, self);
+            return ImportStep::Refused(self, Refusal::StateOutOfRange);
         }
         if self.ended {
             return ImportStep::End(self);
@@ -98,20 +98,20 @@ impl ImportWalk {
         if self.left == 0 {
             return ImportStep::End(self);
         }
-        match read_import(s, self.format, self.symbols, self.place) {
-            ImportRead::Found(import, next) => ImportStep::Item(import, self.passed(next)),
+        match read_import(s, self.imports_format, self.symbols_offset, self.place) {
+            ImportRead::Found(import, next) => ImportStep::Item(self.passed(next), import),
             ImportRead::Refused(e) => self.refused(e),
         }
     }
 
     // Whether a place to read at is beyond so many bytes.
     fn out_of_range(self, len: usize) -> bool
-        ensures { λ r. ⌜ r ≡ outOfRange (self .place) (self .symbols) len ⌝ }
+        ensures { λ r. ⌜ r ≡ outOfRange (self .place) (self .«symbols_offset») len ⌝ }
     {
         if len < self.place {
             return true;
         }
-        len < self.symbols
+        len < self.symbols_offset
     }
 
     // With one import less, read up to a place.
@@ -121,9 +121,9 @@ impl ImportWalk {
     {
         ImportWalk {
             place: next,
-            symbols: self.symbols,
+            symbols_offset: self.symbols_offset,
             left: self.left - 1,
-            format: self.format,
+            imports_format: self.imports_format,
             ended: self.ended,
         }
     }
@@ -134,11 +134,11 @@ impl ImportWalk {
     {
         let marked = ImportWalk {
             place: self.place,
-            symbols: self.symbols,
+            symbols_offset: self.symbols_offset,
             left: self.left,
-            format: self.format,
+            imports_format: self.imports_format,
             ended: true,
         };
-        ImportStep::Refused(e, marked)
+        ImportStep::Refused(marked, e)
     }
 }

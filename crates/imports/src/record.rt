@@ -15,18 +15,18 @@ use numbers::strings::Text;
 use numbers::strings::read_string;
 use refusal::Refusal;
 
-// What a record says: the library, whether the symbol may be missing, where in the symbols its name is,
-// and the addend.
-pub(crate) struct Record {
+// What a record says, dyld_chained_import or one with an addend: where in the symbols the name is, the addend,
+// the library, and whether the symbol may be missing.
+pub(crate) struct ChainedImport {
+    name_offset: u64,
+    addend: i64,
     library: i32,
     weak: bool,
-    name: u64,
-    addend: i64,
 }
 
 // A record and the place behind it.
-pub(crate) enum RecordRead {
-    Found(Record, usize),
+pub(crate) enum ChainedImportRead {
+    Found(ChainedImport, usize),
     Refused(Refusal),
 }
 
@@ -42,7 +42,7 @@ pub(crate) fn read_import(s: &[u8], format: u64, symbols: usize, at: usize) -> I
     ensures { λ r. ⌜ r ≡ importAt (now (s .entry)) format symbols at ⌝ }
 {
     match read_record(s, format, at) {
-        RecordRead::Found(record, next) => match read_name(s, symbols, record.name) {
+        ChainedImportRead::Found(record, next) => match read_name(s, symbols, record.name_offset) {
             Text::Found { start, len, .. } => {
                 let import = Import {
                     library: record.library,
@@ -55,7 +55,7 @@ pub(crate) fn read_import(s: &[u8], format: u64, symbols: usize, at: usize) -> I
             }
             Text::Fault => ImportRead::Refused(Refusal::FaultyImport),
         },
-        RecordRead::Refused(e) => ImportRead::Refused(e),
+        ChainedImportRead::Refused(e) => ImportRead::Refused(e),
     }
 }
 
@@ -71,72 +71,72 @@ fn read_name(s: &[u8], symbols: usize, offset: u64) -> Text
 }
 
 // The record of a format at a place.
-fn read_record(s: &[u8], format: u64, at: usize) -> RecordRead
+fn read_record(s: &[u8], format: u64, at: usize) -> ChainedImportRead
     ensures { λ r. ⌜ r ≡ recordAt (now (s .entry)) format at ⌝ }
 {
     match format {
         1 => read_plain(s, at),
         2 => read_addend(s, at),
         3 => read_addend64(s, at),
-        _ => RecordRead::Refused(Refusal::UnsupportedFormat),
+        _ => ChainedImportRead::Refused(Refusal::UnsupportedFormat),
     }
 }
 
-fn read_plain(s: &[u8], at: usize) -> RecordRead
+fn read_plain(s: &[u8], at: usize) -> ChainedImportRead
     ensures { λ r. ⌜ r ≡ plainAt (now (s .entry)) at ⌝ }
 {
     let Number::Value(fields, next) = read_u32(s, at) else {
-        return RecordRead::Refused(Refusal::FaultyImport);
+        return ChainedImportRead::Refused(Refusal::FaultyImport);
     };
-    RecordRead::Found(narrow(fields, 0), next)
+    ChainedImportRead::Found(narrow(fields, 0), next)
 }
 
-fn read_addend(s: &[u8], at: usize) -> RecordRead
+fn read_addend(s: &[u8], at: usize) -> ChainedImportRead
     ensures { λ r. ⌜ r ≡ addendAt (now (s .entry)) at ⌝ }
 {
     let Number::Value(fields, behind) = read_u32(s, at) else {
-        return RecordRead::Refused(Refusal::FaultyImport);
+        return ChainedImportRead::Refused(Refusal::FaultyImport);
     };
     let Number::Value(n, next) = read_u32(s, behind) else {
-        return RecordRead::Refused(Refusal::FaultyImport);
+        return ChainedImportRead::Refused(Refusal::FaultyImport);
     };
     let addend = signed(n, 0x7fff_ffff, 0xffff_ffff);
-    RecordRead::Found(narrow(fields, addend), next)
+    ChainedImportRead::Found(narrow(fields, addend), next)
 }
 
-fn read_addend64(s: &[u8], at: usize) -> RecordRead
+fn read_addend64(s: &[u8], at: usize) -> ChainedImportRead
     ensures { λ r. ⌜ r ≡ addend64At (now (s .entry)) at ⌝ }
 {
     let Number::Value(fields, behind) = read_u64(s, at) else {
-        return RecordRead::Refused(Refusal::FaultyImport);
+        return ChainedImportRead::Refused(Refusal::FaultyImport);
     };
     let Number::Value(n, next) = read_u64(s, behind) else {
-        return RecordRead::Refused(Refusal::FaultyImport);
+        return ChainedImportRead::Refused(Refusal::FaultyImport);
     };
     let addend = signed(n, 0x7fff_ffff_ffff_ffff, 0xffff_ffff_ffff_ffff);
-    RecordRead::Found(wide(fields, addend), next)
+    ChainedImportRead::Found(wide(fields, addend), next)
 }
 
 // The fields of a record of four bytes.
-fn narrow(n: u64, addend: i64) -> Record
+fn narrow(n: u64, addend: i64) -> ChainedImport
     ensures { λ r. ⌜ r ≡ narrow n addend ⌝ }
 {
-    Record {
+    ChainedImport {
         library: library(n % 0x100, 0xf0, 0xff),
         weak: n / 0x100 % 2 == 1,
-        name: n / 0x200 % 0x80_0000,
+        name_offset: n / 0x200 % 0x80_0000,
         addend,
     }
 }
 
 // The fields of a record of eight bytes.
-fn wide(n: u64, addend: i64) -> Record
+fn wide(n: u64, addend: i64) -> ChainedImport
     ensures { λ r. ⌜ r ≡ wide n addend ⌝ }
 {
-    Record {
+    ChainedImport {
         library: library(n % 0x1_0000, 0xfff0, 0xffff),
         weak: n / 0x1_0000 % 2 == 1,
-        name: n / 0x1_0000_0000 % 0x1_0000_0000,
+        name_offset: n / 0x1_0000_0000 % 0x1_0000_0000,
         addend,
     }
 }

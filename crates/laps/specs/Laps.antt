@@ -9,7 +9,7 @@ use Rattle.chains.specs.declared.Segment.{Segment}
 use Rattle.chains.specs.declared.SegmentWalk.{SegmentWalk}
 use Rattle.listing.specs.Call.{begin, call}
 use Rattle.pages.specs.Call as pages
-use Rattle.pages.specs.ChainedPointers.{Fixed}
+use Rattle.pages.specs.declared.Patch.{Patch}
 use Rattle.rebase.specs.Rebases.{unset, rebases}
 use Rattle.rebase.specs.declared.Rebase.{Rebase}
 use Rattle.runs.specs.Runs.{Begin, begun, notBegun, Answer, item, end, refused}
@@ -56,7 +56,7 @@ bindSum s size limit = fromStart (lap bindOffset (call binds s) limit 0) (begin 
 
 -- ---- the fixups of a segment: the places. `s` are the bytes of the chained fixups, `d` those of the segment
 
-abbrev pub fixupPlace : Fixed → ℕ
+abbrev pub fixupPlace : Patch → ℕ
 fixupPlace x = x .place
 
 abbrev pub segmentSum : (s d : List ℕ) (base limit : ℕ) → Segment → ℕ

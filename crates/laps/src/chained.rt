@@ -25,7 +25,7 @@ fn first_lap(v: SegmentWalk, s: &[u8], d: &[u8], base: u64, limit: u64) -> u64
     ensures { λ r. ⌜ r ≡ stepSum (now (s .entry)) (now (d .entry)) base limit v ⌝ }
 {
     match v.step(s) {
-        SegmentStep::Item(segment, _) => segment_lap(segment, s, d, base, limit),
+        SegmentStep::Item(_, segment) => segment_lap(segment, s, d, base, limit),
         SegmentStep::End(_) => 0,
         SegmentStep::Refused(_, _) => 0,
     }
@@ -42,7 +42,7 @@ fn segment_lap(segment: Segment, s: &[u8], d: &[u8], base: u64, limit: u64) -> u
     let mut sum: u64 = 0;
     while 0 < left {
         match w.step(s, d) {
-            PageStep::Item(x, next) => {
+            PageStep::Item(next, x) => {
                 sum = wrapping_add_u64(sum, x.place);
                 w = next;
                 left -= 1;

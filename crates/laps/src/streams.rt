@@ -22,7 +22,7 @@ pub extern "C" fn laps_rebase(stream: &[u8], size: u8, limit: u64) -> u64
     let mut sum: u64 = 0;
     while 0 < left {
         match w.step(stream) {
-            RebaseStep::Item(place, next) => {
+            RebaseStep::Item(next, place) => {
                 sum = wrapping_add_u64(sum, place.offset);
                 w = next;
                 left -= 1;
@@ -47,7 +47,7 @@ pub extern "C" fn laps_bind(stream: &[u8], size: u8, limit: u64) -> u64
     let mut sum: u64 = 0;
     while 0 < left {
         match w.step(stream) {
-            BindStep::Item(bound, next) => {
+            BindStep::Item(next, bound) => {
                 sum = wrapping_add_u64(sum, bound.offset);
                 w = next;
                 left -= 1;

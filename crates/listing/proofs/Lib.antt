@@ -1,12 +1,13 @@
 pub mod Streams
 pub mod Local
 pub mod Positions
-pub mod Runs
-pub mod Joined
+pub mod Calls
 pub mod Answers
-pub mod Kept
-pub mod Resumed
 pub mod Held
+pub mod Kept
+pub mod Ahead
+pub mod Joined
+pub mod Resumed
 pub mod Loops
 pub mod Starts
 pub mod Typed

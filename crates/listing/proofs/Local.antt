@@ -95,17 +95,19 @@ module _ (M : Machine) where
     pub ops : List (M .Op × ℕ)
     pub to : ℕ
     pub leads : Leads s at ops to
-    pub stops : (op : M .Op) (next : ℕ) → there M s to ≡ operation op next → ⊥
+    pub none-there : (op : M .Op) (next : ℕ) → there M s to ≡ operation op next → ⊥
 
   module _ (s : List ℕ) where
-    stops-there : (p : Parsed (M .Op)) → ((op : M .Op) (next : ℕ) → p ≡ operation op next → ⊥) → (at : ℕ) → there M s at ≡ p → Whole s at
-    stops-there p h at e = record { ops = []; to = at; leads = stays; stops = λ op next f. h op next (sym e ∙ f) }
+    whole-here : (at : ℕ) → ((op : M .Op) (next : ℕ) → there M s at ≡ operation op next → ⊥) → Whole s at
+    whole-here at h = record { ops = []; to = at; leads = stays; none-there = h }
 
     by-stream : (xs : Stream (M .Op)) (at : ℕ) → streamAt M s at ≡ xs → Whole s at
     by-stream out at e =
-        stops-there noBytes (λ op next f. let z : _≡_ {A = ℕ} 0 1 = cc in omega arith) at (sym (no-byte (M .table) s at (is-out M s at e)))
+        let n = no-byte (M .table) s at (is-out M s at e) in
+        whole-here at (λ op next f. let z : _≡_ {A = ℕ} 0 1 = cc in omega arith)
     by-stream (bad n position) at e =
-        stops-there (faulty n) (λ op next f. let z : _≡_ {A = ℕ} 0 1 = cc in omega arith) at (is-bad M s at e .parsed)
+        let b = is-bad M s at e .parsed in
+        whole-here at (λ op next f. let z : _≡_ {A = ℕ} 0 1 = cc in omega arith)
     by-stream (one position op next rest) at e =
         let b = behind M s at e in
         let w = by-stream rest next (b .same) in
@@ -113,7 +115,7 @@ module _ (M : Machine) where
           ops = (op, next) ∷ w .ops;
           to = w .to;
           leads = over (b .parsed) (w .leads);
-          stops = w .stops;
+          none-there = w .none-there;
         }
 
     -- every stream has them

@@ -18,7 +18,7 @@ use Rattle.cursor.specs.declared.Turn.the-variants.{On, Anew, Due, End, Refused
 use Rattle.listing.specs.Call.{State, state, beginFrom, begin, due, answered, read, called, call}
 use Rattle.listing.specs.Machine.{Effect, _and_, Machine}
 use Rattle.listing.specs.Stream.{Stream, before, streamAt}
-use Rattle.listing.proofs.Runs.{call-by}
+use Rattle.listing.proofs.Calls.{call-by}
 use Rattle.listing.proofs.Streams.{fewer-left, stream-by}
 use Rattle.operations.specs.Table.{Parsed, operation, operationAt}
 use Rattle.runs.specs.Runs.{Begin, Answer}

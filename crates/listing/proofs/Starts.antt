@@ -1,7 +1,7 @@
 -- The start of a walk at a pointer size. Assumes nothing.
 use Prim.Native.Nat.{ℕ, _^_, _<_}
 use mathlib.Core.Path.{_≡_, refl, sym, _∙_}
-use mathlib.Core.Bool.{Bool, true, false, cond}
+use mathlib.Core.Bool.{Bool, true, false, cond, true≢false}
 use native.Mathlib.Decide.{decLt}
 use native.Mathlib.Omega.{arith}
 use borrow.Author.Tests.{ne-eqb}
@@ -19,7 +19,7 @@ no-size {size} h = rw (ne-eqb size 4 (λ e. omega (arith, e)), ne-eqb size 8 (λ
 pub byte-size : {size : ℕ} → isPointerSize size ≡ true → size < 2 ^ 8
 byte-size {size} e =
     elim (decLt 255 size) [
-      | yes h ↦ let z : true ≡ false = sym e ∙ no-size h in let q : _≡_ {A = ℕ} 0 1 = cc in absurd (omega arith)
+      | yes h ↦ absurd (true≢false (sym e ∙ no-size h))
       | no h ↦ omega arith
     ]
 

@@ -6,17 +6,13 @@ use mathlib.Core.List.{List}
 use native.Mathlib.Omega.{arith}
 use lib.ListN.{length}
 use Rattle.cursor.proofs.Typed as cursor
-use Rattle.cursor.proofs.Typed.{IfDue, IfMoved, Counted}
-use Rattle.cursor.specs.Cursor.{markedEnded, standingOf, movedOf}
+use Rattle.cursor.proofs.Typed.{IfMoved, Counted}
+use Rattle.cursor.specs.Cursor.{markedEnded, movedOf}
 use Rattle.cursor.specs.declared.Moved.{Moved}
 use Rattle.cursor.specs.declared.Moved.the-variants as moved
-use Rattle.cursor.specs.declared.Standing.{Standing}
-use Rattle.cursor.specs.declared.Standing.the-variants as standing
-use Rattle.listing.specs.Call.{State, state, begin, called, call}
+use Rattle.listing.specs.Call.{State, state, begin, call}
 use Rattle.listing.specs.Machine.{Machine}
-use Rattle.listing.specs.Stream.{streamAt}
-use Rattle.listing.proofs.Answers.{Keeps, KeepsRegisters, by-due, by-read}
-use Rattle.listing.proofs.Runs.{call-by}
+use Rattle.listing.proofs.Answers.{Keeps, KeepsRegisters, by-call}
 use Rattle.listing.proofs.Starts.{byte-size, begun-is}
 use Rattle.listing.proofs.Streams.{ends-within}
 use Rattle.operations.specs.Table.{operation, operationAt}
@@ -41,13 +37,14 @@ abbrev pub Counts : (M : Machine) → List ℕ → Type 0
 Counts M s = (size at next : ℕ) (op : M .Op) (g : M .Reg) → operationAt (M .table) s at ≡ operation op next → Counted (M .effect size op g .motion)
 
 module _ (M : Machine) (s : List ℕ) (short : length s < 2 ^ 64) (P : M .Reg → Type 0) (keeps : KeepsRegisters M s P) (counts : Counts M s) where
-  both : (g : M .Reg) → P g → (m : Moved) → IfMoved cursor.Typed m → IfMoved (λ c. Typed P (state c g)) m
+  both : (g : M .Reg) → P g → (m : Moved) → IfMoved cursor.Typed cursor.Typed m →
+      IfMoved (λ c. Typed P (state c g)) (λ c. Typed P (state c g)) m
   both g p (moved.On c) t = record { cursor = t; registers = p }
   both g p (moved.Due c) t = record { cursor = t; registers = p }
   both g p (moved.End c) t = record { cursor = t; registers = p }
   both g p (moved.Refused e) t = tt
 
-  keeps-typed : Keeps M s (Typed P)
+  keeps-typed : Keeps M s (Typed P) (Typed P)
   keeps-typed v at next op e t =
       let c = v .cursor in
       let did = M .effect (c .size) op (v .registers) in
@@ -68,30 +65,17 @@ module _ (M : Machine) (s : List ℕ) (short : length s < 2 ^ 64) (P : M .Reg �
   Good (end v) = Typed P v
   Good (refused number v) = Typed P v × IsNumber number
 
-  abbrev Below : ℕ → Type 0
-  Below o = o < 2 ^ 64
-
   module _ (w : State (M .Reg)) (t : Typed P w) where
     ended : Typed P (state (markedEnded (w .cursor)) (w .registers))
     ended = record { cursor = cursor.typed-ended (t .cursor); registers = t .registers }
 
-    given : (o : ℕ) (v : State (M .Reg)) → Below o → Typed P v → Good (item (M .item (v .registers) o) v)
-    given o v h u = (u, record { registers = v .registers; offset = o; is = refl; typed = u .registers; below = h })
-
-    by-standing : (x : Standing) → IfDue cursor.Typed x → Good (called M w s x)
-    by-standing standing.OutOfRange d = (t, is-number StateOutOfRange)
-    by-standing standing.Ended d = t
-    by-standing (standing.Due c) d =
-        by-due M s (Typed P) keeps-typed Below (λ v u. u .cursor .offset) w Good given (λ v u. u) (λ e. (ended, is-number e))
-        (w .cursor .offset) (state c (w .registers)) (t .cursor .offset) (record { cursor = d; registers = t .registers }) (M .lack (w .registers))
-    by-standing standing.Reading d =
-        by-read M s (Typed P) keeps-typed Below (λ v u. u .cursor .offset) w Good given (λ v u. u) (λ e. (ended, is-number e))
-        (streamAt M s (w .cursor .at)) (w .cursor .at) refl w t
-
     good : Good (call M s w)
     good =
-        subst Good (sym (call-by M s w refl))
-        (by-standing (standingOf (w .cursor) (length s)) (cursor.typed-standing (w .cursor) (t .cursor) (length s)))
+        by-call M s (Typed P) (Typed P) keeps-typed w Good
+        (λ u v p d.
+        (d, record { registers = _; offset = _; is = refl; typed = d .registers; below = p .cursor .offset }))
+        (λ v u. u) (λ e. (ended, is-number e)) t (λ r. (t, is-number StateOutOfRange))
+        (λ n e. record { cursor = cursor.typed-behind (w .cursor) (t .cursor) n e; registers = t .registers })
 
     pub typed-call : Hands (Typed P) IsNumber (call M s w)
     typed-call = by (call M s w) good

@@ -13,7 +13,7 @@ use mir.Val.{SFits}
 use Rattle.numbers.specs.Gathered.{gatheredAt}
 use Rattle.numbers.specs.Leb128.{ulebAt, slebAt}
 use Rattle.numbers.specs.Parts.{partOf}
-use Rattle.numbers.specs.Runs.{Run, run, unended, runTo}
+use Rattle.numbers.specs.Spans.{Span, span, unended, spanTo}
 use Rattle.numbers.specs.Strings.{isNul, stringOf, stringAt}
 use Rattle.numbers.specs.declared.leb128.Gathered.{Gathered}
 use Rattle.numbers.specs.declared.leb128.Gathered.the-variants.{Few, Ten, Cut}
@@ -23,7 +23,7 @@ use Rattle.numbers.specs.declared.leb128.Unsigned.{Unsigned}
 use Rattle.numbers.specs.declared.leb128.Unsigned.the-variants as unsigned
 use Rattle.numbers.specs.declared.strings.Text.{Text}
 use Rattle.numbers.specs.declared.strings.Text.the-variants as string
-use Rattle.numbers.proofs.Runs.{is-run, length-snoc}
+use Rattle.numbers.proofs.Spans.{is-span, length-snoc}
 use Rattle.numbers.proofs.leb128.Views.{Seen, seen, few-sum}
 use Rattle.numbers.proofs.leb128.Uleb.{few-uleb, ten-uleb, ten-fits, ten-large, cut-uleb}
 use Rattle.numbers.proofs.leb128.Sleb.{few-plus, few-minus, plus-below, minus-small, ten-low, ten-plus, ten-minus, ten-fault, cut-sleb}
@@ -118,9 +118,9 @@ IfString s at (string.Found start len next) = StringRead s at start len next
 IfString s at string.Fault = Unit {0}
 
 module _ (s : List ℕ) (at : ℕ) where
-  string-of : (x : Run) → runTo isNul (drop at s) ≡ x → IfString s at (stringOf at x)
-  string-of (run bs) e =
-      let i = is-run isNul (drop at s) e in
+  string-of : (x : Span) → spanTo isNul (drop at s) ≡ x → IfString s at (stringOf at x)
+  string-of (span bs) e =
+      let i = is-span isNul (drop at s) e in
       let n : length bs ≡ length (i .passed) + 1 = ap length (i .split) ∙ length-snoc (i .passed) (i .last) in
       record {
         within = record { beyond = omega (arith, n); inside = omega (arith, n, i .inside, length-drop at s) };
@@ -131,7 +131,7 @@ module _ (s : List ℕ) (at : ℕ) where
 
   pub string-read : {r : Text} {start len next : ℕ} → r ≡ stringAt s at → r ≡ string.Found start len next → StringRead s at start len next
   unfolding stringAt
-  string-read e f = subst (IfString s at) (sym e ∙ f) (string-of (runTo isNul (drop at s)) refl)
+  string-read e f = subst (IfString s at) (sym e ∙ f) (string-of (spanTo isNul (drop at s)) refl)
 
 -- ---- parts
 

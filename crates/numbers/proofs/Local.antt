@@ -14,7 +14,7 @@ use Rattle.numbers.specs.Digits.{fromDigits}
 use Rattle.numbers.specs.Leb128.{isLast, bytesAt, tenth, ulebOf, ulebAt, slebOf, slebAt}
 use Rattle.numbers.specs.LittleEndian.{littleEndian, fieldAt}
 use Rattle.numbers.specs.Parts.{partOf}
-use Rattle.numbers.specs.Runs.{Run, run, unended, before, runTo}
+use Rattle.numbers.specs.Spans.{Span, span, unended, inFront, spanTo}
 use Rattle.numbers.specs.Strings.{isNul, stringOf, stringAt}
 use Rattle.numbers.specs.declared.Number.the-variants as number
 use Rattle.numbers.specs.declared.leb128.Signed.{Signed}
@@ -24,7 +24,7 @@ use Rattle.numbers.specs.declared.leb128.Unsigned.the-variants as unsign
 use Rattle.numbers.specs.declared.strings.Text.{Text}
 use Rattle.numbers.specs.declared.strings.Text.the-variants as string
 use Rattle.numbers.proofs.Picks.{by-pick}
-use Rattle.numbers.proofs.Runs.{behind, behind-none, goes-before, is-run, length-snoc}
+use Rattle.numbers.proofs.Spans.{behind, behind-none, goes-before, is-span, length-snoc}
 
 -- ---- bytes that are the same up to a place
 
@@ -108,84 +108,84 @@ module _ (s : List ℕ) where
 -- ---- runs: one that ends is decided by its own bytes
 
 module _ (ends : ℕ → Bool) where
-  -- the bytes that some begin with are a run, whatever follows
+  -- the bytes that some begin with are a span, whatever follows
   record Ended (s bs : List ℕ) : Type 0 where
     begins : take (length bs) s ≡ bs
-    whatever : (t : List ℕ) → runTo ends (bs ++ t) ≡ run bs
+    whatever : (t : List ℕ) → spanTo ends (bs ++ t) ≡ span bs
 
-  -- none of some bytes ends a run, which so goes on behind them
+  -- none of some bytes ends a span, which so goes on behind them
   record Open (s : List ℕ) : Type 0 where
     goes : (i : ℕ) → i < length s → ends (getD s i 0) ≡ false
-    onward : (t : List ℕ) → runTo ends (s ++ t) ≡ behind s (runTo ends t)
+    onward : (t : List ℕ) → spanTo ends (s ++ t) ≡ behind s (spanTo ends t)
 
-  abbrev Known : List ℕ → Run → Type 0
-  Known s (run bs) = Ended s bs
+  abbrev Known : List ℕ → Span → Type 0
+  Known s (span bs) = Ended s bs
   Known s unended = Open s
 
   ends-known : (b : ℕ) (s : List ℕ) → ends b ≡ true → Ended (b ∷ s) (b ∷ [])
-  unfolding runTo
+  unfolding spanTo
   ends-known b s e = record { begins = refl; whatever = λ t. rw e }
 
-  before-behind : (b : ℕ) (s : List ℕ) (x : Run) → before b (behind s x) ≡ behind (b ∷ s) x
-  before-behind b s (run bs) = refl
+  before-behind : (b : ℕ) (s : List ℕ) (x : Span) → inFront b (behind s x) ≡ behind (b ∷ s) x
+  before-behind b s (span bs) = refl
   before-behind b s unended = refl
 
-  goes-known : (b : ℕ) (s : List ℕ) → ends b ≡ false → (x : Run) → Known s x → Known (b ∷ s) (before b x)
-  unfolding runTo
-  goes-known b s e (run bs) k =
-      record { begins = ap (λ (l : List ℕ). b ∷ l) (k .begins); whatever = λ t. rw e (ap (before b) (k .whatever t)) }
+  goes-known : (b : ℕ) (s : List ℕ) → ends b ≡ false → (x : Span) → Known s x → Known (b ∷ s) (inFront b x)
+  unfolding spanTo
+  goes-known b s e (span bs) k =
+      record { begins = ap (λ (l : List ℕ). b ∷ l) (k .begins); whatever = λ t. rw e (ap (inFront b) (k .whatever t)) }
   goes-known b s e unended k =
       record {
         goes = goes-before ends b s e (k .goes);
-        onward = λ t. rw e (ap (before b) (k .onward t) ∙ before-behind b s (runTo ends t));
+        onward = λ t. rw e (ap (inFront b) (k .onward t) ∙ before-behind b s (spanTo ends t));
       }
 
-  test-known : (b : ℕ) (s : List ℕ) (t : Bool) → ends b ≡ t → (x : Run) → Known s x → Known (b ∷ s) (cond t (run (b ∷ [])) (before b x))
+  test-known : (b : ℕ) (s : List ℕ) (t : Bool) → ends b ≡ t → (x : Span) → Known s x → Known (b ∷ s) (cond t (span (b ∷ [])) (inFront b x))
   test-known b s true e x k = ends-known b s e
   test-known b s false e x k = goes-known b s e x k
 
-  known : (s : List ℕ) → Known s (runTo ends s)
-  unfolding runTo
-  known [] = record { goes = λ i h. absurd (omega arith); onward = λ t. sym (behind-none (runTo ends t)) }
-  known (b ∷ s) = test-known b s (ends b) refl (runTo ends s) (known s)
+  known : (s : List ℕ) → Known s (spanTo ends s)
+  unfolding spanTo
+  known [] = record { goes = λ i h. absurd (omega arith); onward = λ t. sym (behind-none (spanTo ends t)) }
+  known (b ∷ s) = test-known b s (ends b) refl (spanTo ends s) (known s)
 
-  ended-by : (s : List ℕ) {bs : List ℕ} → runTo ends s ≡ run bs → Ended s bs
+  ended-by : (s : List ℕ) {bs : List ℕ} → spanTo ends s ≡ span bs → Ended s bs
   ended-by s e = subst (Known s) e (known s)
 
-  open-by : (s : List ℕ) → runTo ends s ≡ unended → Open s
+  open-by : (s : List ℕ) → spanTo ends s ≡ unended → Open s
   open-by s e = subst (Known s) e (known s)
 
-  -- bytes that do not end a run: it goes on behind them
-  pub run-onward : (s t : List ℕ) → runTo ends s ≡ unended → runTo ends (s ++ t) ≡ behind s (runTo ends t)
-  run-onward s t e = open-by s e .onward t
+  -- bytes that do not end a span: it goes on behind them
+  pub span-onward : (s t : List ℕ) → spanTo ends s ≡ unended → spanTo ends (s ++ t) ≡ behind s (spanTo ends t)
+  span-onward s t e = open-by s e .onward t
 
-  module _ (s : List ℕ) (at : ℕ) {bs : List ℕ} (e : runTo ends (drop at s) ≡ run bs) where
-    run-inside : at + length bs ≤ length s
-    run-inside =
-        let i = is-run ends (drop at s) e in
+  module _ (s : List ℕ) (at : ℕ) {bs : List ℕ} (e : spanTo ends (drop at s) ≡ span bs) where
+    span-inside : at + length bs ≤ length s
+    span-inside =
+        let i = is-span ends (drop at s) e in
         omega (arith, ap length (i .split) ∙ length-snoc (i .passed) (i .last), i .inside, length-drop at s)
 
-    run-same : (r : List ℕ) → take (length bs) (drop at r) ≡ take (length bs) (drop at s) → runTo ends (drop at r) ≡ runTo ends (drop at s)
-    run-same r f =
+    span-same : (r : List ℕ) → take (length bs) (drop at r) ≡ take (length bs) (drop at s) → spanTo ends (drop at r) ≡ spanTo ends (drop at s)
+    span-same r f =
         let k = ended-by (drop at s) e in
         let left = drop (length bs) (drop at r) in
-        ap (runTo ends) (sym (take-append-drop (length bs) (drop at r)) ∙ ap (λ (l : List ℕ). l ++ left) (f ∙ k .begins))
+        ap (spanTo ends) (sym (take-append-drop (length bs) (drop at r)) ∙ ap (λ (l : List ℕ). l ++ left) (f ∙ k .begins))
         ∙ k .whatever left
         ∙ sym e
 
-    pub run-local : Decided (λ r. runTo ends (drop at r)) s (at + length bs)
-    run-local =
-        let d = bytes-local s at (length bs) run-inside in
-        record { inside = run-inside; same = λ r f. run-same r (d .same r f) }
+    pub span-local : Decided (λ r. spanTo ends (drop at r)) s (at + length bs)
+    span-local =
+        let d = bytes-local s at (length bs) span-inside in
+        record { inside = span-inside; same = λ r f. span-same r (d .same r f) }
 
--- what is made of a run, by cases: where it ends, its bytes decide it
-module _ {A : Type 0} (ends : ℕ → Bool) (of : Run → A) (s : List ℕ) (at : ℕ) (P : A → Type 0) where
-  by-run : ((bs : List ℕ) → Decided (λ r. of (runTo ends (drop at r))) s (at + length bs) → P (of (run bs))) → P (of unended) →
-      P (of (runTo ends (drop at s)))
-  by-run h bad = by (runTo ends (drop at s)) refl
+-- what is made of a span, by cases: where it ends, its bytes decide it
+module _ {A : Type 0} (ends : ℕ → Bool) (of : Span → A) (s : List ℕ) (at : ℕ) (P : A → Type 0) where
+  by-span : ((bs : List ℕ) → Decided (λ r. of (spanTo ends (drop at r))) s (at + length bs) → P (of (span bs))) → P (of unended) →
+      P (of (spanTo ends (drop at s)))
+  by-span h bad = by (spanTo ends (drop at s)) refl
     where
-      by : (x : Run) → runTo ends (drop at s) ≡ x → P (of x)
-      by (run bs) e = h bs (decides (run-local ends s at e) of)
+      by : (x : Span) → spanTo ends (drop at s) ≡ x → P (of x)
+      by (span bs) e = h bs (decides (span-local ends s at e) of)
       by unended e = bad
 
 -- ---- LEB128: a number is decided by its bytes
@@ -197,7 +197,7 @@ module _ (s : List ℕ) (at : ℕ) where
 
   pub uleb-local : {v next : ℕ} → ulebAt s at ≡ unsigned.Value v next → Decided (λ r. ulebAt r at) s next
   unfolding ulebAt
-  uleb-local e = subst IfUleb e (by-run isLast (ulebOf at) s at IfUleb (λ bs d. by-pick IfUleb (ltb (tenth bs) 2) _ _ d tt) tt)
+  uleb-local e = subst IfUleb e (by-span isLast (ulebOf at) s at IfUleb (λ bs d. by-pick IfUleb (ltb (tenth bs) 2) _ _ d tt) tt)
 
   abbrev IfSleb : Signed → Type 0
   IfSleb (signed.Value v next) = Decided (λ r. slebAt r at) s next
@@ -207,11 +207,11 @@ module _ (s : List ℕ) (at : ℕ) where
   unfolding slebAt
   sleb-local e =
       subst IfSleb e
-      (by-run isLast (slebOf at) s at IfSleb (λ bs d. by-pick IfSleb (eqb (tenth bs) 0x00 || eqb (tenth bs) 0x7f) _ _ d tt) tt)
+      (by-span isLast (slebOf at) s at IfSleb (λ bs d. by-pick IfSleb (eqb (tenth bs) 0x00 || eqb (tenth bs) 0x7f) _ _ d tt) tt)
 
 -- ---- ten bytes decide what the number is, or that there is none. (Where there are fewer and none is the last, more may mend it.)
 
-module _ {A : Type 0} (of : Run → A) (long : (bs : List ℕ) → 128 ≤ tenth bs → of (run bs) ≡ of unended)
+module _ {A : Type 0} (of : Span → A) (long : (bs : List ℕ) → 128 ≤ tenth bs → of (span bs) ≡ of unended)
     (s : List ℕ) (at : ℕ) (h : at + 10 ≤ length s) where
   abbrev ten : List ℕ → List ℕ
   ten r = take 10 (drop at r)
@@ -222,8 +222,8 @@ module _ {A : Type 0} (of : Run → A) (long : (bs : List ℕ) → 128 ≤ tenth
   there-are-ten : length (ten s) ≡ 10
   there-are-ten = length-take-le 10 (drop at s) (omega (arith, length-drop at s))
 
-  goes-past : Open isLast (ten s) → (x : Run) → of (behind (ten s) x) ≡ of unended
-  goes-past o (run bs) =
+  goes-past : Open isLast (ten s) → (x : Span) → of (behind (ten s) x) ≡ of unended
+  goes-past o (span bs) =
       long (ten s ++ bs)
       (let l = ltb-false (tenth (ten s)) 128 (o .goes 9 (omega (arith, there-are-ten))) in
       omega (arith, l, List·getD-append (ten s) bs 0 9 (omega (arith, there-are-ten))))
@@ -232,20 +232,20 @@ module _ {A : Type 0} (of : Run → A) (long : (bs : List ℕ) → 128 ≤ tenth
   none-of : Open isLast (ten s) → (r : List ℕ) → ten r ≡ ten s → of (bytesAt r at) ≡ of unended
   none-of o r e =
       let left = drop 10 (drop at r) in
-      ap of (ap (runTo isLast) (from-ten r ∙ ap (λ (l : List ℕ). l ++ left) e) ∙ o .onward left)
-      ∙ goes-past o (runTo isLast left)
+      ap of (ap (spanTo isLast) (from-ten r ∙ ap (λ (l : List ℕ). l ++ left) e) ∙ o .onward left)
+      ∙ goes-past o (spanTo isLast left)
 
-  by-ten : (x : Run) → runTo isLast (ten s) ≡ x → Decided (λ r. of (bytesAt r at)) s (at + 10)
-  by-ten (run bs) e =
-      let f = ap (runTo isLast) (from-ten s) ∙ with-more (run-local isLast (ten s) 0 e) (drop 10 (drop at s)) ∙ e in
-      later (decides (run-local isLast s at f) of) (at + 10) (omega (arith, run-inside isLast (ten s) 0 e, there-are-ten)) h
+  by-ten : (x : Span) → spanTo isLast (ten s) ≡ x → Decided (λ r. of (bytesAt r at)) s (at + 10)
+  by-ten (span bs) e =
+      let f = ap (spanTo isLast) (from-ten s) ∙ with-more (span-local isLast (ten s) 0 e) (drop 10 (drop at s)) ∙ e in
+      later (decides (span-local isLast s at f) of) (at + 10) (omega (arith, span-inside isLast (ten s) 0 e, there-are-ten)) h
   by-ten unended e =
       let o = open-by isLast (ten s) e in
       let d = bytes-local s at 10 h in
       record { inside = h; same = λ r f. none-of o r (d .same r f) ∙ sym (none-of o s refl) }
 
   ten-local : Decided (λ r. of (bytesAt r at)) s (at + 10)
-  ten-local = by-ten (runTo isLast (ten s)) refl
+  ten-local = by-ten (spanTo isLast (ten s)) refl
 
 module _ (s : List ℕ) (at : ℕ) (h : at + 10 ≤ length s) where
   pub uleb-ten : Decided (λ r. ulebAt r at) s (at + 10)
@@ -265,7 +265,7 @@ module _ (s : List ℕ) (at : ℕ) where
 
   pub string-local : {start len next : ℕ} → stringAt s at ≡ string.Found start len next → Decided (λ r. stringAt r at) s next
   unfolding stringAt
-  string-local e = subst IfString e (by-run isNul (stringOf at) s at IfString (λ bs d. d) tt)
+  string-local e = subst IfString e (by-span isNul (stringOf at) s at IfString (λ bs d. d) tt)
 
 -- ---- fields and parts, where they lie in the bytes
 

@@ -6,12 +6,12 @@ use mathlib.Core.List.{List}
 use lib.Dec.{ltb}
 use lib.ListN.{length, getD, take}
 use Rattle.numbers.specs.Leb128.{bytesAt, tenth, unsigned}
-use Rattle.numbers.specs.Runs.{Run, run, unended}
+use Rattle.numbers.specs.Spans.{Span, span, unended}
 use Rattle.numbers.specs.declared.leb128.Gathered.{Gathered}
 use Rattle.numbers.specs.declared.leb128.Gathered.the-variants.{Few, Ten, Cut}
 
-abbrev pub gathered : ℕ → Run → Gathered
-gathered at (run bs) =
+abbrev pub gathered : ℕ → Span → Gathered
+gathered at (span bs) =
     cond (ltb (length bs) 10)
     (Few (unsigned (take (length bs - 1) bs)) (128 ^ (length bs - 1)) (getD bs (length bs - 1) 0) (at + length bs))
     (cond (ltb (tenth bs) 128)

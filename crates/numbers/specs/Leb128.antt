@@ -8,7 +8,7 @@ use lib.Dec.{leb, ltb, eqb}
 use lib.IntN.{ℤ, pos, _-ℤ_}
 use lib.ListN.{length, getD, drop}
 use Rattle.numbers.specs.Digits.{fromDigits}
-use Rattle.numbers.specs.Runs.{Run, run, unended, runTo}
+use Rattle.numbers.specs.Spans.{Span, span, unended, spanTo}
 use Rattle.numbers.specs.declared.leb128.Signed.{Signed}
 use Rattle.numbers.specs.declared.leb128.Signed.the-variants as signed
 use Rattle.numbers.specs.declared.leb128.Unsigned.{Unsigned}
@@ -19,8 +19,8 @@ use Rattle.numbers.specs.declared.leb128.Unsigned.the-variants as uleb
 abbrev pub isLast : ℕ → Bool
 isLast b = ltb b 128
 
-abbrev pub bytesAt : List ℕ → ℕ → Run
-bytesAt s at = runTo isLast (drop at s)
+abbrev pub bytesAt : List ℕ → ℕ → Span
+bytesAt s at = spanTo isLast (drop at s)
 
 abbrev pub chunks : List ℕ → List ℕ
 chunks bs = map (λ b. b % 128) bs
@@ -34,8 +34,8 @@ tenth bs = getD bs 9 0
 abbrev pub unsigned : List ℕ → ℕ
 unsigned bs = fromDigits 128 (chunks bs)
 
-abbrev pub ulebOf : ℕ → Run → Unsigned
-ulebOf at (run bs) = cond (ltb (tenth bs) 2) (uleb.Value (unsigned bs) (at + length bs)) uleb.Fault
+abbrev pub ulebOf : ℕ → Span → Unsigned
+ulebOf at (span bs) = cond (ltb (tenth bs) 2) (uleb.Value (unsigned bs) (at + length bs)) uleb.Fault
 ulebOf at unended = uleb.Fault
 
 unfoldable pub ulebAt : List ℕ → ℕ → Unsigned
@@ -50,8 +50,8 @@ negative bs = leb 64 (getD bs (length bs - 1) 0)
 abbrev pub signExtended : List ℕ → ℤ
 signExtended bs = cond (negative bs) (pos (unsigned bs) -ℤ pos (128 ^ length bs)) (pos (unsigned bs))
 
-abbrev pub slebOf : ℕ → Run → Signed
-slebOf at (run bs) =
+abbrev pub slebOf : ℕ → Span → Signed
+slebOf at (span bs) =
     cond (eqb (tenth bs) 0x00 || eqb (tenth bs) 0x7f)
     (signed.Value (signExtended bs) (at + length bs))
     signed.Fault

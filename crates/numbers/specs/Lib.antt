@@ -1,4 +1,4 @@
-pub mod Runs
+pub mod Spans
 pub mod Digits
 pub mod Leb128
 pub mod Gathered

@@ -10,9 +10,9 @@ unfoldable pub partOf : List ℕ → ℕ → ℕ → List ℕ
 partOf s at len = cond (leb (at + len) (length s)) (take len (drop at s)) []
 
 -- where it lies, for a slice that lies at an offset in a block of memory
-unfoldable pub placeOf : ℕ × ℕ → List ℕ → ℕ → ℕ → ℕ × ℕ
-placeOf p s at len = cond (leb (at + len) (length s)) (p .0, p .1 + at) p
+unfoldable pub liesAt : ℕ × ℕ → List ℕ → ℕ → ℕ → ℕ × ℕ
+liesAt p s at len = cond (leb (at + len) (length s)) (p .0, p .1 + at) p
 
 -- both: the part, and not a copy
 abbrev pub partAt : ℕ × ℕ → List ℕ → ℕ → ℕ → (ℕ × ℕ) × List ℕ
-partAt p s at len = (placeOf p s at len, partOf s at len)
+partAt p s at len = (liesAt p s at len, partOf s at len)

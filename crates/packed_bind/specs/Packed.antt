@@ -1,40 +1,47 @@
 -- Bind walks at the boundary: a state and an item in words.
 use Prim.Native.Nat.{ℕ, _*_, _-_, _^_}
 use mathlib.Core.Bool.{Bool, _&&_, _||_}
-use mathlib.Core.List.{List, [], _∷_}
+use mathlib.Core.List.{List, [], _∷_, map}
 use lib.Dec.{leb}
+use lib.ListN.{length}
 use Rattle.bind.specs.declared.Bind.{Bind}
 use Rattle.bind.specs.declared.Registers.{Registers}
 use Rattle.cursor.specs.declared.Cursor.{Cursor}
 use Rattle.listing.specs.Call.{State, state}
 use Rattle.packing.specs.Boundary.{States, Items}
-use Rattle.packing.specs.Fields.{flag, u8, u64, fits, isSet, bit, unsignedOf, signedOf}
+use Rattle.packing.specs.Fields.{flag, u8, u64, isRecord, isSet, bit, unsignedOf, signedOf}
 use Rattle.packing.specs.Words.{wordAt, bytesOf}
 
--- ---- states: the cursor's at, size, remaining, advance, offset, ended; the registers' lazy, segmented, typed, sourced, named, segment,
--- kind, library, place, length, flags, addend
+-- ---- states
 
-abbrev pub stateFields : List ℕ
+-- the fields in order, each by the largest value of its type and by its word
+abbrev pub stateFields : List (ℕ × (State Registers → ℕ))
 stateFields =
-    u64
-    ∷ u8
-    ∷ u64
-    ∷ u64
-    ∷ u64
-    ∷ flag
-    ∷ flag
-    ∷ flag
-    ∷ flag
-    ∷ flag
-    ∷ flag
-    ∷ u8
-    ∷ u8
-    ∷ u64
-    ∷ u64
-    ∷ u64
-    ∷ u8
-    ∷ u64
+    (u64, λ w. w .cursor .at)
+    ∷ (u8, λ w. w .cursor .size)
+    ∷ (u64, λ w. w .cursor .remaining)
+    ∷ (u64, λ w. w .cursor .advance)
+    ∷ (u64, λ w. w .cursor .offset)
+    ∷ (flag, λ w. bit (w .cursor .ended))
+    ∷ (flag, λ w. bit (w .registers .lazy))
+    ∷ (flag, λ w. bit (w .registers .segmented))
+    ∷ (flag, λ w. bit (w .registers .typed))
+    ∷ (flag, λ w. bit (w .registers .sourced))
+    ∷ (flag, λ w. bit (w .registers .named))
+    ∷ (u8, λ w. w .registers .segment)
+    ∷ (u8, λ w. w .registers .kind)
+    ∷ (u64, λ w. unsignedOf (w .registers .library))
+    ∷ (u64, λ w. w .registers .place)
+    ∷ (u64, λ w. w .registers .length)
+    ∷ (u8, λ w. w .registers .flags)
+    ∷ (u64, λ w. unsignedOf (w .registers .addend))
     ∷ []
+
+abbrev pub largest : List ℕ
+largest = map (λ f. f .0) stateFields
+
+abbrev pub stateWords : State Registers → List ℕ
+stateWords w = map (λ f. f .1 w) stateFields
 
 -- a signed number of 32 bits as a word
 abbrev pub isI32 : ℕ → Bool
@@ -42,29 +49,7 @@ isI32 v = leb v (2 ^ 31 - 1) || leb (2 ^ 64 - 2 ^ 31) v
 
 -- the library is one
 abbrev pub isState : List ℕ → Bool
-isState s = fits s stateFields && isI32 (wordAt s 13)
-
-abbrev pub stateWords : State Registers → List ℕ
-stateWords w =
-    w .cursor .at
-    ∷ w .cursor .size
-    ∷ w .cursor .remaining
-    ∷ w .cursor .advance
-    ∷ w .cursor .offset
-    ∷ bit (w .cursor .ended)
-    ∷ bit (w .registers .lazy)
-    ∷ bit (w .registers .segmented)
-    ∷ bit (w .registers .typed)
-    ∷ bit (w .registers .sourced)
-    ∷ bit (w .registers .named)
-    ∷ w .registers .segment
-    ∷ w .registers .kind
-    ∷ unsignedOf (w .registers .library)
-    ∷ w .registers .place
-    ∷ w .registers .length
-    ∷ w .registers .flags
-    ∷ unsignedOf (w .registers .addend)
-    ∷ []
+isState s = isRecord s largest && isI32 (wordAt s 13)
 
 abbrev pub cursorAt : List ℕ → Cursor
 cursorAt s =
@@ -100,25 +85,28 @@ stateAt s = state (cursorAt s) (registersAt s)
 abbrev pub states : States (State Registers)
 states =
     record {
-      long = 8 * 18;
+      long = 8 * length stateFields;
       bytes = λ w. bytesOf (stateWords w);
       holds = isState;
       value = stateAt;
     }
 
--- ---- items: segment, offset, kind, library, the place and length of the name, flags, addend
+-- ---- items; of the name the place and the length
+
+abbrev pub itemFields : List (ℕ × (Bind → ℕ))
+itemFields =
+    (u8, λ x. x .segment)
+    ∷ (u64, λ x. x .offset)
+    ∷ (u8, λ x. x .kind)
+    ∷ (u64, λ x. unsignedOf (x .library))
+    ∷ (u64, λ x. x .place)
+    ∷ (u64, λ x. x .length)
+    ∷ (u8, λ x. x .flags)
+    ∷ (u64, λ x. unsignedOf (x .addend))
+    ∷ []
 
 abbrev pub itemWords : Bind → List ℕ
-itemWords x =
-    x .segment
-    ∷ x .offset
-    ∷ x .kind
-    ∷ unsignedOf (x .library)
-    ∷ x .place
-    ∷ x .length
-    ∷ x .flags
-    ∷ unsignedOf (x .addend)
-    ∷ []
+itemWords x = map (λ f. f .1 x) itemFields
 
 -- which item a record tells
 abbrev pub itemAt : List ℕ → Bind
@@ -137,7 +125,7 @@ itemAt s =
 abbrev pub items : Items Bind
 items =
     record {
-      long = 8 * 8;
+      long = 8 * length itemFields;
       bytes = λ x. bytesOf (itemWords x);
-      blank = bytesOf (0 ∷ 0 ∷ 0 ∷ 0 ∷ 0 ∷ 0 ∷ 0 ∷ 0 ∷ []);
+      blank = bytesOf (map (λ f. 0) itemFields);
     }

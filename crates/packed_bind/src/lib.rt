@@ -6,7 +6,7 @@ ghost use Rattle.bind.specs.Binds.{plainly, weakly, lazily, binds};
 ghost use Rattle.bind.specs.Told.{view, startTold, told};
 ghost use Rattle.listing.specs.Call.{begin, call};
 ghost use Rattle.packing.specs.Boundary.{started, stepTold, stepped};
-ghost use Rattle.packing.specs.Fields.{signedOf, unsignedOf};
+ghost use Rattle.packing.specs.Fields.{unsignedOf};
 ghost use Rattle.packed_bind.specs.Packed.{isI32, isState, stateWords, cursorAt, registersAt, stateAt, states, itemWords, items};
 use bind::Bind;
 use bind::BindStart;
@@ -15,15 +15,24 @@ use bind::BindWalk;
 use bind::Registers;
 use cursor::Cursor;
 use packing::bit;
-use packing::fits;
+use packing::is_record;
 use packing::signed;
 use packing::unsigned;
 use packing::word;
 use packing::write;
 use refusal::Refusal;
 
+// The words of a state and of an item, and their bytes.
+const STATE: usize = 18;
+
+const STATE_BYTES: usize = 8 * STATE;
+
+const ITEM: usize = 8;
+
+const ITEM_BYTES: usize = 8 * ITEM;
+
 // The largest value of each field of a state.
-const FIELDS: [u64; 18] = [
+const FIELDS: [u64; STATE] = [
     u64::MAX,
     255,
     u64::MAX,
@@ -78,7 +87,7 @@ pub fn lazy(size: u64, state: &mut [u8]) -> u64
 fn begin(start: BindStart, state: &mut [u8]) -> u64
     ensures { λ r. ⌜ (r, now (state .exit)) ≡ started states (now (state .entry)) (startTold start) ⌝ }
 {
-    if state.len() != 144 {
+    if state.len() != STATE_BYTES {
         return 19;
     }
     match start {
@@ -95,7 +104,7 @@ fn begin(start: BindStart, state: &mut [u8]) -> u64
 pub fn step(s: &[u8], state: &mut [u8], item: &mut [u8]) -> u64
     ensures { λ r. ⌜ (r, now (state .exit), now (item .exit)) ≡ stepped states items (now (state .entry)) (now (item .entry)) (call binds (now (s .entry))) ⌝ }
 {
-    if item.len() != 64 {
+    if item.len() != ITEM_BYTES {
         return 19;
     }
     if is_state(state) {
@@ -105,12 +114,12 @@ pub fn step(s: &[u8], state: &mut [u8], item: &mut [u8]) -> u64
 }
 
 fn tell(answer: BindStep, state: &mut [u8], item: &mut [u8]) -> u64
-    requires { ⌜ length (now state) ≡ 144 ⌝ }
-    requires { ⌜ length (now item) ≡ 64 ⌝ }
+    requires { ⌜ length (now state) ≡ states .long ⌝ }
+    requires { ⌜ length (now item) ≡ items .long ⌝ }
     ensures { λ r. ⌜ (r, now (state .exit), now (item .exit)) ≡ stepTold states items (told answer) ⌝ }
 {
     match answer {
-        BindStep::Item(x, w) => {
+        BindStep::Item(w, x) => {
             let kept = words(w);
             write(&kept, state);
             let found = item_words(x);
@@ -120,19 +129,19 @@ fn tell(answer: BindStep, state: &mut [u8], item: &mut [u8]) -> u64
         BindStep::End(w) => {
             let kept = words(w);
             write(&kept, state);
-            write(&[0, 0, 0, 0, 0, 0, 0, 0], item);
+            write(&[0; ITEM], item);
             256
         }
-        BindStep::Refused(e, w) => {
+        BindStep::Refused(w, e) => {
             let kept = words(w);
             write(&kept, state);
-            write(&[0, 0, 0, 0, 0, 0, 0, 0], item);
+            write(&[0; ITEM], item);
             e.number() as u64
         }
     }
 }
 
-fn words(w: BindWalk) -> [u64; 18]
+fn words(w: BindWalk) -> [u64; STATE]
     ensures { λ r. ⌜ r ≡ stateWords (view w) ⌝ }
 {
     let c = w.cursor;
@@ -173,7 +182,7 @@ fn addend(g: Registers) -> u64
     unsigned(g.addend)
 }
 
-fn item_words(x: Bind) -> [u64; 8]
+fn item_words(x: Bind) -> [u64; ITEM]
     ensures { λ r. ⌜ r ≡ itemWords x ⌝ }
 {
     [
@@ -224,7 +233,7 @@ fn registers(s: &[u8]) -> Registers
         named: word(s, 10) == 1,
         segment: word(s, 11) as u8,
         kind: word(s, 12) as u8,
-        library: narrow(word(s, 13)),
+        library: signed(word(s, 13)) as i32,
         place: word(s, 14) as usize,
         length: word(s, 15) as usize,
         flags: word(s, 16) as u8,
@@ -236,7 +245,7 @@ fn registers(s: &[u8]) -> Registers
 fn is_state(s: &[u8]) -> bool
     ensures { λ r. ⌜ r ≡ isState (now (s .entry)) ⌝ }
 {
-    if fits(s, &FIELDS) {
+    if is_record(s, &FIELDS) {
         return is_i32(word(s, 13));
     }
     false
@@ -250,12 +259,4 @@ fn is_i32(v: u64) -> bool
         return true;
     }
     v >= 0xffff_ffff_8000_0000
-}
-
-// A word as a signed number of 32 bits.
-fn narrow(v: u64) -> i32
-    requires { ⌜ isI32 v ≡ true ⌝ }
-    ensures { λ r. ⌜ r ≡ signedOf v ⌝ }
-{
-    signed(v) as i32
 }

@@ -12,15 +12,15 @@ use Rattle.imports.specs.Call.{begin, outOfRange, call}
 use Rattle.imports.specs.Listing.{listing}
 use Rattle.imports.specs.declared.Import.{Import}
 use Rattle.imports.specs.declared.ImportWalk.{ImportWalk}
-use Rattle.packing.proofs.Back.{Each, none, word-field, flag-field, each-at, word-back, fits-back, flag-back}
+use Rattle.packing.proofs.Back.{Each, none, word-field, flag-field, each-at, word-back, record-back, flag-back}
 use Rattle.packing.proofs.Calls.{Faithful, Long, started-say, records-back, refused-back}
-use Rattle.packing.proofs.Fields.{fits-long, at-most}
+use Rattle.packing.proofs.Fields.{record-long, at-most}
 use Rattle.packing.proofs.Signs.{signed-back, unsigned-less, widened, narrow-back}
 use Rattle.packing.proofs.Whole.{Bytes, words-whole, flag-whole}
 use Rattle.packing.proofs.Words.{length-bytes}
 use Rattle.packing.specs.Boundary.{started, stepped}
 use Rattle.packing.specs.Calls.{lent, through, recorded}
-use Rattle.packing.specs.Fields.{u64, fits, isSet, bit, signedOf}
+use Rattle.packing.specs.Fields.{u64, isRecord, isSet, bit, signedOf}
 use Rattle.packing.specs.Fields as fields
 use Rattle.packing.specs.Words.{wordAt, wordsFrom, bytesOf}
 use Rattle.packed_imports.specs.Packed.{stateFields, stateWords, stateAt, states, itemWords, itemAt, items}
@@ -30,7 +30,7 @@ use Rattle.runs.specs.Runs.{begun, item, mapped, Walks}
 
 module _ (w : ImportWalk) (t : Typed w) where
   each : Each (stateWords w) stateFields
-  each = word-field (word-field (word-field (word-field (flag-field none (w .ended)) (t .format)) (t .left)) (t .symbols)) (t .place)
+  each = word-field (word-field (word-field (word-field (flag-field none (w .ended)) (t .«imports_format»)) (t .left)) (t .«symbols_offset»)) (t .place)
 
   back : (i : ℕ) → i < 5 → wordAt (bytesOf (stateWords w)) i ≡ getD (stateWords w) i 0
   back i h = word-back (stateWords w) i h (each-at each i h)
@@ -43,15 +43,15 @@ module _ (w : ImportWalk) (t : Typed w) where
       λ j.
       record {
         place = back 0 (omega arith) j;
-        symbols = back 1 (omega arith) j;
+        «symbols_offset» = back 1 (omega arith) j;
         left = back 2 (omega arith) j;
-        format = back 3 (omega arith) j;
+        «imports_format» = back 3 (omega arith) j;
         ended = flag 4 (w .ended) (omega arith) refl j;
       }
 
 -- ---- bytes that hold a state are those of that state
 
-module _ (s : List ℕ) (h : fits s stateFields ≡ true) where
+module _ (s : List ℕ) (h : isRecord s stateFields ≡ true) where
   most : (i : ℕ) → i < 5 → wordAt s i ≤ getD stateFields i 0
   most = at-most stateFields s h
 
@@ -59,9 +59,9 @@ module _ (s : List ℕ) (h : fits s stateFields ≡ true) where
   typed-at =
       record {
         place = omega (arith, most 0 (omega arith));
-        symbols = omega (arith, most 1 (omega arith));
+        «symbols_offset» = omega (arith, most 1 (omega arith));
         left = omega (arith, most 2 (omega arith));
-        format = omega (arith, most 3 (omega arith));
+        «imports_format» = omega (arith, most 3 (omega arith));
       }
 
   words : stateWords (stateAt s) ≡ wordsFrom s 0 5
@@ -72,10 +72,10 @@ module _ (s : List ℕ) (h : fits s stateFields ≡ true) where
 faithful : Faithful states Typed
 faithful =
     record {
-      holds = λ w t. fits-back (each w t);
+      holds = λ w t. record-back (each w t);
       whole = whole;
       typed = λ s b h. typed-at s h;
-      back = λ s b h. ap bytesOf (words s h) ∙ words-whole s b 5 (fits-long stateFields s h refl);
+      back = λ s b h. ap bytesOf (words s h) ∙ words-whole s b 5 (record-long stateFields s h refl);
     }
 
 long : Long items
@@ -107,8 +107,8 @@ module _ (x : Import) (t : TypedImport x) where
 
 module _ (s : List ℕ) (short : length s < 2 ^ 64) where
   -- from a start on they say what the bytes list
-  pub calls-list : Bytes s → {w : ImportWalk} → begin s ≡ begun w → (state told : List ℕ) → length state ≡ 40 → length told ≡ 40 →
-      Walks (through states items (call s)) (lent (started states state (begin s) .1) told) (recorded items (listing s))
+  pub calls-list : Bytes s → {w : ImportWalk} → begin s ≡ begun w → (state item : List ℕ) → length state ≡ 40 → length item ≡ 40 →
+      Walks (through states items (call s)) (lent (started states state (begin s) .1) item) (recorded items (listing s))
   calls-list b {w} e =
       started-say states items Typed faithful long (call s) (typed-call s short) e (typed-begin s b e) (joined s w e)
 
@@ -122,7 +122,7 @@ module _ (s : List ℕ) (short : length s < 2 ^ 64) where
       records-back states items Typed faithful long (call s) (typed-call s short) itemAt (λ w t x v. items-back b w) (joined s w e) (typed-begin s b e)
 
   -- a state out of range comes back as it came
-  pub out-of-range-back : (state told : List ℕ) → Bytes state → fits state stateFields ≡ true → length told ≡ 40 →
-      outOfRange (stateAt state .place) (stateAt state .symbols) (length s) ≡ true → stepped states items state told (call s) ≡ (19, state, items .blank)
-  out-of-range-back state told b h l r =
-      refused-back states items Typed faithful long (call s) (typed-call s short) state b h told l (out-of-range s (stateAt state) r)
+  pub out-of-range-back : (state item : List ℕ) → Bytes state → isRecord state stateFields ≡ true → length item ≡ 40 →
+      outOfRange (stateAt state .place) (stateAt state .«symbols_offset») (length s) ≡ true → stepped states items state item (call s) ≡ (19, state, items .blank)
+  out-of-range-back state i b h l r =
+      refused-back states items Typed faithful long (call s) (typed-call s short) state b h i l (out-of-range s (stateAt state) r)

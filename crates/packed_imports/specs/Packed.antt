@@ -4,7 +4,7 @@ use mathlib.Core.List.{List, [], _∷_}
 use Rattle.imports.specs.declared.Import.{Import}
 use Rattle.imports.specs.declared.ImportWalk.{ImportWalk}
 use Rattle.packing.specs.Boundary.{States, Items}
-use Rattle.packing.specs.Fields.{flag, u64, fits, isSet, bit, unsignedOf, signedOf}
+use Rattle.packing.specs.Fields.{flag, u64, isRecord, isSet, bit, unsignedOf, signedOf}
 use Rattle.packing.specs.Words.{wordAt, bytesOf}
 
 -- ---- states: place, symbols, left, format, ended
@@ -13,15 +13,15 @@ abbrev pub stateFields : List ℕ
 stateFields = u64 ∷ u64 ∷ u64 ∷ u64 ∷ flag ∷ []
 
 abbrev pub stateWords : ImportWalk → List ℕ
-stateWords w = w .place ∷ w .symbols ∷ w .left ∷ w .format ∷ bit (w .ended) ∷ []
+stateWords w = w .place ∷ w .«symbols_offset» ∷ w .left ∷ w .«imports_format» ∷ bit (w .ended) ∷ []
 
 abbrev pub stateAt : List ℕ → ImportWalk
 stateAt s =
     record {
       place = wordAt s 0;
-      symbols = wordAt s 1;
+      «symbols_offset» = wordAt s 1;
       left = wordAt s 2;
-      format = wordAt s 3;
+      «imports_format» = wordAt s 3;
       ended = isSet (wordAt s 4);
     }
 
@@ -30,7 +30,7 @@ states =
     record {
       long = 8 * 5;
       bytes = λ w. bytesOf (stateWords w);
-      holds = λ s. fits s stateFields;
+      holds = λ s. isRecord s stateFields;
       value = stateAt;
     }
 

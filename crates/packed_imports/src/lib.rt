@@ -10,7 +10,7 @@ use imports::ImportStart;
 use imports::ImportStep;
 use imports::ImportWalk;
 use packing::bit;
-use packing::fits;
+use packing::is_record;
 use packing::unsigned;
 use packing::word;
 use packing::write;
@@ -42,7 +42,7 @@ pub fn step(s: &[u8], state: &mut [u8], item: &mut [u8]) -> u64
     if item.len() != 40 {
         return 19;
     }
-    if fits(state, &FIELDS) {
+    if is_record(state, &FIELDS) {
         return tell(held(state).step(s), state, item);
     }
     19
@@ -54,7 +54,7 @@ fn tell(answer: ImportStep, state: &mut [u8], item: &mut [u8]) -> u64
     ensures { λ r. ⌜ (r, now (state .exit), now (item .exit)) ≡ stepTold states items (told answer) ⌝ }
 {
     match answer {
-        ImportStep::Item(x, w) => {
+        ImportStep::Item(w, x) => {
             let kept = words(w);
             write(&kept, state);
             let found = item_words(x);
@@ -67,7 +67,7 @@ fn tell(answer: ImportStep, state: &mut [u8], item: &mut [u8]) -> u64
             write(&[0, 0, 0, 0, 0], item);
             256
         }
-        ImportStep::Refused(e, w) => {
+        ImportStep::Refused(w, e) => {
             let kept = words(w);
             write(&kept, state);
             write(&[0, 0, 0, 0, 0], item);
@@ -81,9 +81,9 @@ fn words(w: ImportWalk) -> [u64; 5]
 {
     [
         w.place as u64,
-        w.symbols as u64,
+        w.symbols_offset as u64,
         w.left,
-        w.format,
+        w.imports_format,
         bit(w.ended),
     ]
 }
@@ -105,9 +105,9 @@ fn held(s: &[u8]) -> ImportWalk
 {
     ImportWalk {
         place: word(s, 0) as usize,
-        symbols: word(s, 1) as usize,
+        symbols_offset: word(s, 1) as usize,
         left: word(s, 2),
-        format: word(s, 3),
+        imports_format: word(s, 3),
         ended: word(s, 4) == 1,
     }
 }

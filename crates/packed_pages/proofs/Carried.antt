@@ -14,26 +14,29 @@ use Rattle.chains.specs.declared.Segment.{Segment}
 use Rattle.chains.specs.declared.SegmentWalk.{SegmentWalk}
 use Rattle.packed_pages.proofs.Fixups.{five}
 use Rattle.packed_pages.proofs.Records.{record-begun}
-use Rattle.packed_pages.specs.Packed.{stateFields, stateWords, stateAt, states, beginAt, fixingWords, itemWords, itemAt, items}
+use Rattle.packed_pages.specs.Packed.{stateFields, stateWords, stateAt, states, beginAt, fixupWords, itemWords, itemAt, items}
 use Rattle.packed_segments.proofs.Segments.{segment-at, segment-each, segment-whole, segment-typed}
 use Rattle.packed_segments.specs.Packed as segments
 use Rattle.packed_segments.specs.Packed.{segmentFields, segmentWords, segmentAt}
-use Rattle.packing.proofs.Back.{Each, none, word-field, flag-field, each-at, word-back, fits-back, flag-back}
+use Rattle.packing.proofs.Back.{Each, none, word-field, flag-field, each-at, word-back, record-back, flag-back}
 use Rattle.packing.proofs.Calls.{Faithful, Long, started-say, records-back, refused-back}
-use Rattle.packing.proofs.Fields.{fits-long, at-most}
+use Rattle.packing.proofs.Fields.{record-long, at-most}
 use Rattle.packing.proofs.Whole.{Bytes, words-whole, flag-whole}
 use Rattle.packing.proofs.Words.{length-bytes}
 use Rattle.packing.specs.Boundary.{started, stepped}
 use Rattle.packing.specs.Calls.{lent, through, recorded}
-use Rattle.packing.specs.Fields.{fits, isSet, bit}
+use Rattle.packing.specs.Fields.{isRecord, isSet, bit}
 use Rattle.packing.specs.Words.{wordAt, wordsFrom, bytesOf}
 use Rattle.pages.proofs.Joined.{joined}
 use Rattle.pages.proofs.Kept.{out-of-range}
-use Rattle.pages.proofs.Typed.{Typed, TypedFixing, typed-begin, typed-call, typed-item}
+use Rattle.pages.proofs.Typed.{Typed, TypedFixup, typed-begin, typed-call, typed-item}
 use Rattle.pages.specs.Call.{begin, outOfRange, call}
-use Rattle.pages.specs.ChainedPointers.{Fixing, rebase, bind, Fixed, fixed}
+use Rattle.pages.specs.ChainedPointers.{rebase, bind, patch}
 use Rattle.pages.specs.Listing.{listing, heard}
 use Rattle.pages.specs.declared.PageWalk.{PageWalk}
+use Rattle.pages.specs.declared.Patch.{Patch}
+use Rattle.pages.specs.declared.pointer.Fixup.{Fixup}
+use Rattle.pages.specs.declared.pointer.Fixup.the-variants.{Rebase, Bind}
 use Rattle.runs.specs.Runs.{begun, item, mapped, Walks}
 
 -- ---- a state whose fields are such as their types have comes back from its bytes whole
@@ -68,7 +71,7 @@ module _ (w : PageWalk) (t : Typed w) where
 
 -- ---- bytes that hold a state are those of that state
 
-module _ (s : List ℕ) (h : fits s stateFields ≡ true) where
+module _ (s : List ℕ) (h : isRecord s stateFields ≡ true) where
   most : (i : ℕ) → i < 16 → wordAt s i ≤ getD stateFields i 0
   most = at-most stateFields s h
 
@@ -108,10 +111,10 @@ module _ (s : List ℕ) (h : fits s stateFields ≡ true) where
 faithful : Faithful states Typed
 faithful =
     record {
-      holds = λ w t. fits-back (each w t);
+      holds = λ w t. record-back (each w t);
       whole = whole;
       typed = λ s b h. typed-at s h;
-      back = λ s b h. ap bytesOf (words s h) ∙ words-whole s b 16 (fits-long stateFields s h refl);
+      back = λ s b h. ap bytesOf (words s h) ∙ words-whole s b 16 (record-long stateFields s h refl);
     }
 
 long : Long items
@@ -120,27 +123,28 @@ long x = length-bytes (itemWords x) ∙ ap (λ (n : ℕ). 8 * n) (five x)
 -- ---- an item whose fields are such as their types have is the one that its record tells
 
 tells : (vs : List ℕ) {largest : List ℕ} → Each vs largest → length vs ≡ 5 →
-    itemAt (bytesOf vs) ≡ fixed (getD vs 0 0) (cond (eqb (getD vs 1 0) 0) (rebase (getD vs 2 0)) (bind (getD vs 3 0) (getD vs 4 0)))
+    itemAt (bytesOf vs) ≡ patch (getD vs 0 0) (cond (eqb (getD vs 1 0) 0) (rebase (getD vs 2 0)) (bind (getD vs 3 0) (getD vs 4 0)))
 tells vs e l =
     λ j.
-    fixed (is 0 (omega arith) j)
+    patch (is 0 (omega arith) j)
     (cond (eqb (is 1 (omega arith) j) 0) (rebase (is 2 (omega arith) j)) (bind (is 3 (omega arith) j) (is 4 (omega arith) j)))
   where
     is : (i : ℕ) → i < 5 → wordAt (bytesOf vs) i ≡ getD vs i 0
     is i h = let k : i < length vs = omega (arith, l) in word-back vs i k (each-at e i k)
 
 module _ (place : ℕ) (h : place < 2 ^ 64) where
-  tells-fixing : (f : Fixing) → TypedFixing f → itemAt (bytesOf (place ∷ fixingWords f)) ≡ fixed place f
-  tells-fixing (rebase target) t =
+  tells-fixup : (f : Fixup) → TypedFixup f → itemAt (bytesOf (place ∷ fixupWords f)) ≡ patch place f
+  tells-fixup (Rebase r) t =
       tells _ (word-field (word-field (word-field (word-field (word-field none {v = 0} (omega arith)) {v = 0} (omega arith)) t) {v = 0} (omega arith)) h) refl
-  tells-fixing (bind ordinal addend) t =
+  tells-fixup (Bind b) t =
       tells _ (word-field (word-field (word-field (word-field (word-field none (t .1)) (t .0)) {v = 0} (omega arith)) {v = 1} (omega arith)) h) refl
 
 -- ---- a start by the bytes of a segment is a start by the segment
 
 begins-by : (s : List ℕ) (g : Segment) → TypedSegment g → (base : ℕ) → beginAt s (bytesOf (segmentWords g)) base ≡ begin s g base
 unfolding beginAt
-begins-by s g t base = rw (fits-back (segment-each g t none)) (ap (λ (g : Segment). begin s g base) (segment-whole g t))
+begins-by s g t base =
+    rw (record-back (segment-each g t none)) (ap (λ (g : Segment). begin s g base) (segment-whole g t))
 
 -- so the record that a step of the walk over segments told begins a walk over the pages of that segment
 pub begins-told : (s : List ℕ) → Bytes s → length s < 2 ^ 64 → (w : SegmentWalk) → chains.Typed w → {g : Segment} {v : SegmentWalk} → chains-call.call s w ≡ item g v →
@@ -160,16 +164,16 @@ module _ (s contents : List ℕ) where
 
   -- from a start on they say what the chains of the segment list
   pub calls-list : length contents < 2 ^ 64 → (segment : List ℕ) (base : ℕ) → base < 2 ^ 64 → {w : PageWalk} → beginAt s segment base ≡ begun w →
-      (state told : List ℕ) → length state ≡ 128 → length told ≡ 40 →
-      Walks (through states items (call s contents)) (lent (started states state (beginAt s segment base) .1) told)
+      (state item : List ℕ) → length state ≡ 128 → length item ≡ 40 →
+      Walks (through states items (call s contents)) (lent (started states state (beginAt s segment base) .1) item)
       (recorded items (heard (listing s contents (segmentAt segment) base)))
   calls-list short segment base h e =
       let b = begins short segment base h e in
       started-say states items Typed faithful long (call s contents) (typed-call s contents) e (b .0) (b .1)
 
   -- the record of every item that is yielded tells which it is
-  pub items-back : (w : PageWalk) → Typed w → {x : Fixed} {v : PageWalk} → call s contents w ≡ item x v → itemAt (items .bytes x) ≡ x
-  items-back w t {x} e = let u = typed-item s contents w t e in tells-fixing (x .place) (u .place) (x .fixing) (u .fixing)
+  pub items-back : (w : PageWalk) → Typed w → {x : Patch} {v : PageWalk} → call s contents w ≡ item x v → itemAt (items .bytes x) ≡ x
+  items-back w t {x} e = let u = typed-item s contents w t e in tells-fixup (x .place) (u .place) (x .fixup) (u .fixup)
 
   -- so the records of all tell what the chains list
   pub listing-back : length contents < 2 ^ 64 → (segment : List ℕ) (base : ℕ) → base < 2 ^ 64 → {w : PageWalk} → beginAt s segment base ≡ begun w →
@@ -180,8 +184,8 @@ module _ (s contents : List ℕ) where
       records-back states items Typed faithful long (call s contents) (typed-call s contents) itemAt (λ w t x v. items-back w t) (b .1) (b .0)
 
   -- a state out of range comes back as it came
-  pub out-of-range-back : (state told : List ℕ) → Bytes state → fits state stateFields ≡ true → length told ≡ 40 → outOfRange (stateAt state) (length s) ≡ true →
-      stepped states items state told (call s contents) ≡ (19, state, items .blank)
-  out-of-range-back state told b h l r =
-      refused-back states items Typed faithful long (call s contents) (typed-call s contents) state b h told l
+  pub out-of-range-back : (state item : List ℕ) → Bytes state → isRecord state stateFields ≡ true → length item ≡ 40 → outOfRange (stateAt state) (length s) ≡ true →
+      stepped states items state item (call s contents) ≡ (19, state, items .blank)
+  out-of-range-back state i b h l r =
+      refused-back states items Typed faithful long (call s contents) (typed-call s contents) state b h i l
       (out-of-range s contents (stateAt state) r)

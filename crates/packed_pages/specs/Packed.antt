@@ -5,11 +5,14 @@ use mathlib.Core.List.{List, [], _∷_, _++_}
 use lib.Dec.{eqb}
 use Rattle.packed_segments.specs.Packed.{segmentFields, segmentWords, segmentAt}
 use Rattle.packing.specs.Boundary.{States, Items, unfit}
-use Rattle.packing.specs.Fields.{flag, u64, fits, isSet, bit}
+use Rattle.packing.specs.Fields.{flag, u64, isRecord, isSet, bit}
 use Rattle.packing.specs.Words.{wordAt, bytesOf}
 use Rattle.pages.specs.Call.{begin}
-use Rattle.pages.specs.ChainedPointers.{Fixing, rebase, bind, Fixed, fixed}
+use Rattle.pages.specs.ChainedPointers.{rebase, bind, patch}
 use Rattle.pages.specs.declared.PageWalk.{PageWalk}
+use Rattle.pages.specs.declared.Patch.{Patch}
+use Rattle.pages.specs.declared.pointer.Fixup.{Fixup}
+use Rattle.pages.specs.declared.pointer.Fixup.the-variants.{Rebase, Bind}
 use Rattle.runs.specs.Runs.{Begin, notBegun}
 
 -- ---- states: the segment's record, then base, linked, more, page, chain, origin, offset, ended
@@ -49,29 +52,29 @@ states =
     record {
       long = 8 * 16;
       bytes = λ w. bytesOf (stateWords w);
-      holds = λ s. fits s stateFields;
+      holds = λ s. isRecord s stateFields;
       value = stateAt;
     }
 
 -- ---- a start: 19 where the segment's bytes are no record of one
 
 unfoldable pub beginAt : (s segment : List ℕ) (base : ℕ) → Begin PageWalk
-beginAt s segment base = cond (fits segment segmentFields) (begin s (segmentAt segment) base) (notBegun unfit)
+beginAt s segment base = cond (isRecord segment segmentFields) (begin s (segmentAt segment) base) (notBegun unfit)
 
 -- ---- items: place, kind, target, ordinal, addend; what a fixup does not have is 0
 
-abbrev pub fixingWords : Fixing → List ℕ
-fixingWords (rebase target) = 0 ∷ target ∷ 0 ∷ 0 ∷ []
-fixingWords (bind ordinal addend) = 1 ∷ 0 ∷ ordinal ∷ addend ∷ []
+abbrev pub fixupWords : Fixup → List ℕ
+fixupWords (Rebase r) = 0 ∷ r .target ∷ 0 ∷ 0 ∷ []
+fixupWords (Bind b) = 1 ∷ 0 ∷ b .ordinal ∷ b .addend ∷ []
 
-abbrev pub itemWords : Fixed → List ℕ
-itemWords x = x .place ∷ fixingWords (x .fixing)
+abbrev pub itemWords : Patch → List ℕ
+itemWords x = x .place ∷ fixupWords (x .fixup)
 
 -- which item a record tells
-abbrev pub itemAt : List ℕ → Fixed
-itemAt s = fixed (wordAt s 0) (cond (eqb (wordAt s 1) 0) (rebase (wordAt s 2)) (bind (wordAt s 3) (wordAt s 4)))
+abbrev pub itemAt : List ℕ → Patch
+itemAt s = patch (wordAt s 0) (cond (eqb (wordAt s 1) 0) (rebase (wordAt s 2)) (bind (wordAt s 3) (wordAt s 4)))
 
-abbrev pub items : Items Fixed
+abbrev pub items : Items Patch
 items =
     record {
       long = 8 * 5;

@@ -5,14 +5,14 @@ ghost use Prim.Native.Nat.{_≤_};
 ghost use lib.ListN.{length};
 ghost use Rattle.packed_segments.specs.Packed.{segmentAt};
 ghost use Rattle.packing.specs.Boundary.{started, stepTold, stepped};
-ghost use Rattle.packing.specs.Fields.{u16, fits};
+ghost use Rattle.packing.specs.Fields.{u16, isRecord};
 ghost use Rattle.packing.specs.Words.{wordAt};
 ghost use Rattle.pages.specs.Call.{call};
-ghost use Rattle.pages.specs.Told.{patchTold, told};
+ghost use Rattle.pages.specs.Told.{told};
 ghost use Rattle.packed_pages.specs.Packed.{stateFields, stateWords, stateAt, states, beginAt, itemWords, items};
 use chains::Segment;
 use packing::bit;
-use packing::fits;
+use packing::is_record;
 use packing::word;
 use packing::write;
 use pages::PageStart;
@@ -60,7 +60,7 @@ pub fn start(s: &[u8], segment: &[u8], base: u64, state: &mut [u8]) -> u64
     if state.len() != 128 {
         return 19;
     }
-    if fits(segment, &SEGMENT) {
+    if is_record(segment, &SEGMENT) {
         match PageWalk::start(s, held_segment(segment), base) {
             PageStart::Begun(w) => {
                 let kept = words(w);
@@ -82,7 +82,7 @@ pub fn step(s: &[u8], contents: &[u8], state: &mut [u8], item: &mut [u8]) -> u64
     if item.len() != 40 {
         return 19;
     }
-    if fits(state, &FIELDS) {
+    if is_record(state, &FIELDS) {
         return tell(held(state).step(s, contents), state, item);
     }
     19
@@ -94,7 +94,7 @@ fn tell(answer: PageStep, state: &mut [u8], item: &mut [u8]) -> u64
     ensures { λ r. ⌜ (r, now (state .exit), now (item .exit)) ≡ stepTold states items (told answer) ⌝ }
 {
     match answer {
-        PageStep::Item(x, w) => {
+        PageStep::Item(w, x) => {
             let kept = words(w);
             write(&kept, state);
             let found = item_words(x);
@@ -107,7 +107,7 @@ fn tell(answer: PageStep, state: &mut [u8], item: &mut [u8]) -> u64
             write(&[0, 0, 0, 0, 0], item);
             256
         }
-        PageStep::Refused(e, w) => {
+        PageStep::Refused(w, e) => {
             let kept = words(w);
             write(&kept, state);
             write(&[0, 0, 0, 0, 0], item);
@@ -122,11 +122,11 @@ fn words(w: PageWalk) -> [u64; 16]
     let g = w.segment;
     [
         g.index,
-        g.size as u64,
-        g.format as u64,
-        g.offset,
-        g.limit,
-        g.pages as u64,
+        g.page_size as u64,
+        g.pointer_format as u64,
+        g.segment_offset,
+        g.max_valid_pointer,
+        g.page_count as u64,
         g.place as u64,
         g.count,
         w.base,
@@ -141,7 +141,7 @@ fn words(w: PageWalk) -> [u64; 16]
 }
 
 fn item_words(x: Patch) -> [u64; 5]
-    ensures { λ r. ⌜ r ≡ itemWords (patchTold x) ⌝ }
+    ensures { λ r. ⌜ r ≡ itemWords x ⌝ }
 {
     let place = x.place;
     let fixup = x.fixup;
@@ -152,7 +152,7 @@ fn item_words(x: Patch) -> [u64; 5]
 }
 
 fn held(s: &[u8]) -> PageWalk
-    requires { ⌜ fits (now s) stateFields ≡ true ⌝ }
+    requires { ⌜ isRecord (now s) stateFields ≡ true ⌝ }
     ensures { λ r. ⌜ r ≡ stateAt (now (s .entry)) ⌝ }
 {
     PageWalk {
@@ -175,11 +175,11 @@ fn held_segment(s: &[u8]) -> Segment
 {
     Segment {
         index: word(s, 0),
-        size: word(s, 1) as u16,
-        format: word(s, 2) as u16,
-        offset: word(s, 3),
-        limit: word(s, 4),
-        pages: word(s, 5) as u16,
+        page_size: word(s, 1) as u16,
+        pointer_format: word(s, 2) as u16,
+        segment_offset: word(s, 3),
+        max_valid_pointer: word(s, 4),
+        page_count: word(s, 5) as u16,
         place: word(s, 6) as usize,
         count: word(s, 7),
     }

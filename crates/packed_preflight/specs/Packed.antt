@@ -2,11 +2,15 @@
 use Prim.Native.Nat.{ℕ, _/_, _%_}
 use mathlib.Core.Bool.{cond, _&&_}
 use mathlib.Core.List.{List, [], _∷_}
-use lib.Dec.{eqb, leb, ltb}
+use lib.Dec.{eqb}
 use lib.ListN.{length}
+use Rattle.bind.specs.Binds.{plainly, weakly, lazily, binds}
+use Rattle.packed_preflight.specs.declared.Flight.{Flight}
+use Rattle.packed_preflight.specs.declared.Flight.the-variants.{Rebases, PlainBinds, WeakBinds, LazyBinds}
 use Rattle.packing.specs.Boundary.{itemTold, unfit}
 use Rattle.packing.specs.Words.{wordsFrom, bytesOf}
-use Rattle.preflight.specs.Verdict.{Verdict, pass, fault}
+use Rattle.preflight.specs.Verdict.{Verdict, pass, fault, preflight}
+use Rattle.rebase.specs.Rebases.{unset, rebases}
 
 -- ---- the sizes
 
@@ -19,17 +23,17 @@ abbrev pub verdictTold : Verdict → ℕ × List ℕ
 verdictTold (pass operations) = (itemTold, bytesOf (operations ∷ 0 ∷ []))
 verdictTold (fault number position index) = (number, bytesOf (position ∷ index ∷ []))
 
--- sizes are whole words, and the verdict is written over two; `flight` is the verdict for given sizes
-unfoldable pub flown : (sizes told : List ℕ) → (flight : List ℕ → Verdict) → ℕ × List ℕ
-flown sizes told flight =
-    cond (eqb (length told) 16 && eqb (length sizes % 8) 0) (verdictTold (flight (sizesOf sizes))) (unfit, told)
+-- sizes are whole words, and the verdict is written over two; `flight` is the preflight
+unfoldable pub flown : (flight : (size : ℕ) (sizes s : List ℕ) → Verdict) →
+    (s : List ℕ) (size : ℕ) (sizes verdict : List ℕ) → ℕ × List ℕ
+flown flight s size sizes verdict =
+    cond (eqb (length verdict) 16 && eqb (length sizes % 8) 0)
+    (verdictTold (flight size (sizesOf sizes) s)) (unfit, verdict)
 
--- ---- what the private functions make of a size and of the number of sizes
+-- ---- which preflight it is
 
--- a number that is no u8 is no pointer size, and neither is 0
-abbrev pub narrow : ℕ → ℕ
-narrow size = cond (leb size 255) size 0
-
--- a preflight refuses 17 sizes as it refuses more
-abbrev pub fewer : ℕ → ℕ
-fewer count = cond (ltb count 17) count 17
+abbrev pub flightOf : Flight → (size : ℕ) (sizes s : List ℕ) → Verdict
+flightOf Rebases = preflight rebases unset
+flightOf PlainBinds = preflight binds plainly
+flightOf WeakBinds = preflight binds weakly
+flightOf LazyBinds = preflight binds lazily

@@ -1,9 +1,8 @@
 // Preflights at the boundary to C: the sizes in bytes, and the verdict written as words.
 ghost use mathlib.Core.Path.{_≡_};
-ghost use Prim.Native.Nat.{_/_, _≤_};
-ghost use lib.ListN.{length, take};
+ghost use lib.ListN.{length};
 ghost use Rattle.bind.specs.Binds.{plainly, weakly, lazily, binds};
-ghost use Rattle.packed_preflight.specs.Packed.{verdictTold, flown, narrow, fewer};
+ghost use Rattle.packed_preflight.specs.Packed.{sizesOf, verdictTold, flown, flightOf};
 ghost use Rattle.packing.specs.Words.{wordsFrom};
 ghost use Rattle.preflight.specs.Told.{told};
 ghost use Rattle.preflight.specs.Verdict.{preflight};
@@ -11,73 +10,52 @@ ghost use Rattle.rebase.specs.Rebases.{unset, rebases};
 use packing::word;
 use packing::write;
 use preflight::Verdict;
+use refusal::Refusal;
 
-// A preflight takes 16 sizes: of more it is enough to know 17.
-struct Sizes {
-    count: usize,
-    words: [u64; 17],
+// Which preflight: what its stream holds.
+enum Flight {
+    Rebases,
+    PlainBinds,
+    WeakBinds,
+    LazyBinds,
 }
 
 // The preflight of a rebase stream.
 pub fn rebases(s: &[u8], size: u64, sizes: &[u8], verdict: &mut [u8]) -> u64
-    ensures { λ r. ⌜ (r, now (verdict .exit)) ≡ flown (now (sizes .entry)) (now (verdict .entry)) (λ zs. preflight rebases unset size zs (now (s .entry))) ⌝ }
+    ensures { λ r. ⌜ (r, now (verdict .exit)) ≡
+        flown (preflight rebases unset) (now (s .entry)) size (now (sizes .entry)) (now (verdict .entry)) ⌝ }
 {
-    if verdict.len() != 16 {
-        return 19;
-    }
-    if sizes.len() % 8 != 0 {
-        return 19;
-    }
-    let given = read(sizes);
-    let count = given.count;
-    let words = given.words;
-    tell(
-        preflight::rebases(s, narrow(size), &words[0..count]),
-        verdict,
-    )
+    answer(Flight::Rebases, s, size, sizes, verdict)
 }
 
 // The preflight of a stream of plain binds.
 pub fn plain_binds(s: &[u8], size: u64, sizes: &[u8], verdict: &mut [u8]) -> u64
-    ensures { λ r. ⌜ (r, now (verdict .exit)) ≡ flown (now (sizes .entry)) (now (verdict .entry)) (λ zs. preflight binds plainly size zs (now (s .entry))) ⌝ }
+    ensures { λ r. ⌜ (r, now (verdict .exit)) ≡
+        flown (preflight binds plainly) (now (s .entry)) size (now (sizes .entry)) (now (verdict .entry)) ⌝ }
 {
-    if verdict.len() != 16 {
-        return 19;
-    }
-    if sizes.len() % 8 != 0 {
-        return 19;
-    }
-    let given = read(sizes);
-    let count = given.count;
-    let words = given.words;
-    tell(
-        preflight::plain_binds(s, narrow(size), &words[0..count]),
-        verdict,
-    )
+    answer(Flight::PlainBinds, s, size, sizes, verdict)
 }
 
 // The preflight of a stream of weak binds.
 pub fn weak_binds(s: &[u8], size: u64, sizes: &[u8], verdict: &mut [u8]) -> u64
-    ensures { λ r. ⌜ (r, now (verdict .exit)) ≡ flown (now (sizes .entry)) (now (verdict .entry)) (λ zs. preflight binds weakly size zs (now (s .entry))) ⌝ }
+    ensures { λ r. ⌜ (r, now (verdict .exit)) ≡
+        flown (preflight binds weakly) (now (s .entry)) size (now (sizes .entry)) (now (verdict .entry)) ⌝ }
 {
-    if verdict.len() != 16 {
-        return 19;
-    }
-    if sizes.len() % 8 != 0 {
-        return 19;
-    }
-    let given = read(sizes);
-    let count = given.count;
-    let words = given.words;
-    tell(
-        preflight::weak_binds(s, narrow(size), &words[0..count]),
-        verdict,
-    )
+    answer(Flight::WeakBinds, s, size, sizes, verdict)
 }
 
 // The preflight of a stream of lazy binds.
 pub fn lazy_binds(s: &[u8], size: u64, sizes: &[u8], verdict: &mut [u8]) -> u64
-    ensures { λ r. ⌜ (r, now (verdict .exit)) ≡ flown (now (sizes .entry)) (now (verdict .entry)) (λ zs. preflight binds lazily size zs (now (s .entry))) ⌝ }
+    ensures { λ r. ⌜ (r, now (verdict .exit)) ≡
+        flown (preflight binds lazily) (now (s .entry)) size (now (sizes .entry)) (now (verdict .entry)) ⌝ }
+{
+    answer(Flight::LazyBinds, s, size, sizes, verdict)
+}
+
+// What they answer and write alike, but for the verdict.
+fn answer(flight: Flight, s: &[u8], size: u64, sizes: &[u8], verdict: &mut [u8]) -> u64
+    ensures { λ r. ⌜ (r, now (verdict .exit)) ≡
+        flown (flightOf flight) (now (s .entry)) size (now (sizes .entry)) (now (verdict .entry)) ⌝ }
 {
     if verdict.len() != 16 {
         return 19;
@@ -85,48 +63,46 @@ pub fn lazy_binds(s: &[u8], size: u64, sizes: &[u8], verdict: &mut [u8]) -> u64
     if sizes.len() % 8 != 0 {
         return 19;
     }
-    let given = read(sizes);
-    let count = given.count;
-    let words = given.words;
-    tell(
-        preflight::lazy_binds(s, narrow(size), &words[0..count]),
-        verdict,
-    )
+    tell(judge(flight, s, size, sizes), verdict)
 }
 
-// A number that is no u8 is no pointer size, and neither is 0.
-fn narrow(size: u64) -> u8
-    ensures { λ r. ⌜ r ≡ narrow size ⌝ }
+// The verdict. A preflight takes 16 sizes: of more it is enough to know 17.
+fn judge(flight: Flight, s: &[u8], size: u64, sizes: &[u8]) -> Verdict
+    ensures { λ r. ⌜ told r ≡ flightOf flight size (sizesOf (now (sizes .entry))) (now (s .entry)) ⌝ }
 {
-    if size <= 255 {
-        return size as u8;
+    if size > 255 {
+        return Verdict::Fault(Refusal::PointerSize, 0, 0);
     }
-    0
+    let words = read(sizes);
+    let count = sizes.len() / 8;
+    if count < 17 {
+        return fly(flight, s, size as u8, &words[0..count]);
+    }
+    fly(flight, s, size as u8, &words)
 }
 
-// The sizes, but for those behind the seventeenth.
-fn read(s: &[u8]) -> Sizes
-    ensures { λ r. ⌜ r .count ≡ fewer (length (now (s .entry)) / 8) ⌝ }
-    ensures { λ r. ⌜ r .count ≤ length (r .words) ⌝ }
-    ensures { λ r. ⌜ take (r .count) (r .words) ≡ wordsFrom (now (s .entry)) 0 (r .count) ⌝ }
+// The first seventeen sizes; 0 where there are fewer.
+fn read(s: &[u8]) -> [u64; 17]
+    ensures { λ r. ⌜ r ≡ wordsFrom (now (s .entry)) 0 17 ⌝ }
 {
     let mut words: [u64; 17] = [0; 17];
-    let count = fewer(s.len() / 8);
     let mut i: usize = 0;
-    while i < count {
+    while i < 17 {
         words[i] = word(s, i);
         i += 1;
     }
-    Sizes { count, words }
+    words
 }
 
-fn fewer(count: usize) -> usize
-    ensures { λ r. ⌜ r ≡ fewer count ⌝ }
+fn fly(flight: Flight, s: &[u8], size: u8, sizes: &[u64]) -> Verdict
+    ensures { λ r. ⌜ told r ≡ flightOf flight size (now (sizes .entry)) (now (s .entry)) ⌝ }
 {
-    if count < 17 {
-        return count;
+    match flight {
+        Flight::Rebases => preflight::rebases(s, size, sizes),
+        Flight::PlainBinds => preflight::plain_binds(s, size, sizes),
+        Flight::WeakBinds => preflight::weak_binds(s, size, sizes),
+        Flight::LazyBinds => preflight::lazy_binds(s, size, sizes),
     }
-    17
 }
 
 fn tell(v: Verdict, verdict: &mut [u8]) -> u64

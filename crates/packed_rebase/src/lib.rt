@@ -4,13 +4,13 @@ ghost use mathlib.Core.Path.{_≡_};
 ghost use lib.ListN.{length};
 ghost use Rattle.listing.specs.Call.{begin, call};
 ghost use Rattle.packing.specs.Boundary.{started, stepTold, stepped};
-ghost use Rattle.packing.specs.Fields.{fits};
+ghost use Rattle.packing.specs.Fields.{isRecord};
 ghost use Rattle.rebase.specs.Rebases.{unset, rebases};
 ghost use Rattle.rebase.specs.Told.{view, told};
-ghost use Rattle.packed_rebase.specs.Packed.{stateFields, stateWords, stateAt, states, items};
+ghost use Rattle.packed_rebase.specs.Packed.{largest, stateWords, stateAt, states, items};
 use cursor::Cursor;
 use packing::bit;
-use packing::fits;
+use packing::is_record;
 use packing::word;
 use packing::write;
 use rebase::Rebase;
@@ -19,8 +19,17 @@ use rebase::RebaseStep;
 use rebase::RebaseWalk;
 use rebase::Registers;
 
+// The words of a state and of an item, and their bytes.
+const STATE: usize = 10;
+
+const STATE_BYTES: usize = 8 * STATE;
+
+const ITEM: usize = 3;
+
+const ITEM_BYTES: usize = 8 * ITEM;
+
 // The largest value of each field of a state.
-const FIELDS: [u64; 10] = [
+const FIELDS: [u64; STATE] = [
     u64::MAX,
     255,
     u64::MAX,
@@ -37,7 +46,7 @@ const FIELDS: [u64; 10] = [
 pub fn start(size: u64, state: &mut [u8]) -> u64
     ensures { λ r. ⌜ (r, now (state .exit)) ≡ started states (now (state .entry)) (begin size unset) ⌝ }
 {
-    if state.len() != 80 {
+    if state.len() != STATE_BYTES {
         return 19;
     }
     if size > 255 {
@@ -57,22 +66,22 @@ pub fn start(size: u64, state: &mut [u8]) -> u64
 pub fn step(s: &[u8], state: &mut [u8], item: &mut [u8]) -> u64
     ensures { λ r. ⌜ (r, now (state .exit), now (item .exit)) ≡ stepped states items (now (state .entry)) (now (item .entry)) (call rebases (now (s .entry))) ⌝ }
 {
-    if item.len() != 24 {
+    if item.len() != ITEM_BYTES {
         return 19;
     }
-    if fits(state, &FIELDS) {
+    if is_record(state, &FIELDS) {
         return tell(held(state).step(s), state, item);
     }
     19
 }
 
 fn tell(answer: RebaseStep, state: &mut [u8], item: &mut [u8]) -> u64
-    requires { ⌜ length (now state) ≡ 80 ⌝ }
-    requires { ⌜ length (now item) ≡ 24 ⌝ }
+    requires { ⌜ length (now state) ≡ states .long ⌝ }
+    requires { ⌜ length (now item) ≡ items .long ⌝ }
     ensures { λ r. ⌜ (r, now (state .exit), now (item .exit)) ≡ stepTold states items (told answer) ⌝ }
 {
     match answer {
-        RebaseStep::Item(x, w) => {
+        RebaseStep::Item(w, x) => {
             let kept = words(w);
             write(&kept, state);
             write(&[x.segment as u64, x.offset, x.kind as u64], item);
@@ -81,19 +90,19 @@ fn tell(answer: RebaseStep, state: &mut [u8], item: &mut [u8]) -> u64
         RebaseStep::End(w) => {
             let kept = words(w);
             write(&kept, state);
-            write(&[0, 0, 0], item);
+            write(&[0; ITEM], item);
             256
         }
-        RebaseStep::Refused(e, w) => {
+        RebaseStep::Refused(w, e) => {
             let kept = words(w);
             write(&kept, state);
-            write(&[0, 0, 0], item);
+            write(&[0; ITEM], item);
             e.number() as u64
         }
     }
 }
 
-fn words(w: RebaseWalk) -> [u64; 10]
+fn words(w: RebaseWalk) -> [u64; STATE]
     ensures { λ r. ⌜ r ≡ stateWords (view w) ⌝ }
 {
     let c = w.cursor;
@@ -113,7 +122,7 @@ fn words(w: RebaseWalk) -> [u64; 10]
 }
 
 fn held(s: &[u8]) -> RebaseWalk
-    requires { ⌜ fits (now s) stateFields ≡ true ⌝ }
+    requires { ⌜ isRecord (now s) largest ≡ true ⌝ }
     ensures { λ r. ⌜ view r ≡ stateAt (now (s .entry)) ⌝ }
 {
     RebaseWalk {

@@ -17,11 +17,11 @@ module _ (g : Segment) where
       λ j.
       record {
         index = is 0 (omega arith) j;
-        size = is 1 (omega arith) j;
-        format = is 2 (omega arith) j;
-        offset = is 3 (omega arith) j;
-        limit = is 4 (omega arith) j;
-        pages = is 5 (omega arith) j;
+        «page_size» = is 1 (omega arith) j;
+        «pointer_format» = is 2 (omega arith) j;
+        «segment_offset» = is 3 (omega arith) j;
+        «max_valid_pointer» = is 4 (omega arith) j;
+        «page_count» = is 5 (omega arith) j;
         place = is 6 (omega arith) j;
         count = is 7 (omega arith) j;
       }
@@ -31,7 +31,7 @@ module _ (g : Segment) where
     pub segment-each : {vs rest : List ℕ} → Each vs rest → Each (segmentWords g ++ vs) (segmentFields ++ rest)
     segment-each e =
         word-field (half-field (half-field (word-field (word-field (half-field (word-field (word-field e
-        (t .count)) (t .place)) (t .pages)) (t .limit)) (t .offset)) (t .format)) (t .size)) (t .index)
+        (t .count)) (t .place)) (t .«page_count»)) (t .«max_valid_pointer»)) (t .«segment_offset»)) (t .«pointer_format»)) (t .«page_size»)) (t .index)
 
     -- one whose fields are such as their types have comes back from its bytes whole
     pub segment-whole : segmentAt (bytesOf (segmentWords g)) ≡ g
@@ -42,11 +42,11 @@ pub segment-typed : (s : List ℕ) → ((i : ℕ) → i < 8 → wordAt s i ≤ g
 segment-typed s most =
     record {
       index = omega (arith, most 0 (omega arith));
-      size = omega (arith, most 1 (omega arith));
-      format = omega (arith, most 2 (omega arith));
-      offset = omega (arith, most 3 (omega arith));
-      limit = omega (arith, most 4 (omega arith));
-      pages = omega (arith, most 5 (omega arith));
+      «page_size» = omega (arith, most 1 (omega arith));
+      «pointer_format» = omega (arith, most 2 (omega arith));
+      «segment_offset» = omega (arith, most 3 (omega arith));
+      «max_valid_pointer» = omega (arith, most 4 (omega arith));
+      «page_count» = omega (arith, most 5 (omega arith));
       place = omega (arith, most 6 (omega arith));
       count = omega (arith, most 7 (omega arith));
     }

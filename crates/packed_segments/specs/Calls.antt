@@ -2,7 +2,7 @@
 use Prim.Native.Nat.{ℕ}
 use mathlib.Core.List.{List}
 use Rattle.chains.specs.Call.{call}
-use Rattle.chains.specs.Heard.{heard}
+use Rattle.chains.specs.Hear.{asEntry}
 use Rattle.chains.specs.Listing.{Entry, segment, refusal}
 use Rattle.chains.specs.declared.Segment.{Segment}
 use Rattle.packing.specs.Calls.{Lent, through}
@@ -11,7 +11,7 @@ use Rattle.runs.specs.Runs.{Answer}
 
 -- one call through the entry point
 abbrev pub hearThrough : List ℕ → Lent → Answer Lent (Entry (List ℕ))
-hearThrough s r = heard (through states items (call s) r)
+hearThrough s r = asEntry (through states items (call s) r)
 
 -- an entry, with the record of its segment; and which entry it tells
 abbrev pub entryRecord : Entry Segment → Entry (List ℕ)

@@ -4,7 +4,7 @@ use mathlib.Core.List.{List, [], _∷_}
 use Rattle.chains.specs.declared.Segment.{Segment}
 use Rattle.chains.specs.declared.SegmentWalk.{SegmentWalk}
 use Rattle.packing.specs.Boundary.{States, Items}
-use Rattle.packing.specs.Fields.{u16, u64, fits}
+use Rattle.packing.specs.Fields.{u16, u64, isRecord}
 use Rattle.packing.specs.Words.{wordAt, bytesOf}
 
 -- ---- states: place, count, index
@@ -23,11 +23,12 @@ states =
     record {
       long = 8 * 3;
       bytes = λ w. bytesOf (stateWords w);
-      holds = λ s. fits s stateFields;
+      holds = λ s. isRecord s stateFields;
       value = stateAt;
     }
 
--- ---- items: the record of a segment, which a walk over its pages is started with: index, size, format, offset, limit, pages, place, count
+-- ---- items: the record of a segment, which a walk over its pages is started with: index, page_size, pointer_format,
+-- segment_offset, max_valid_pointer, page_count, place, count
 
 abbrev pub segmentFields : List ℕ
 segmentFields = u64 ∷ u16 ∷ u16 ∷ u64 ∷ u64 ∷ u16 ∷ u64 ∷ u64 ∷ []
@@ -35,11 +36,11 @@ segmentFields = u64 ∷ u16 ∷ u16 ∷ u64 ∷ u64 ∷ u16 ∷ u64 ∷ u64 ∷ 
 abbrev pub segmentWords : Segment → List ℕ
 segmentWords g =
     g .index
-    ∷ g .size
-    ∷ g .format
-    ∷ g .offset
-    ∷ g .limit
-    ∷ g .pages
+    ∷ g .«page_size»
+    ∷ g .«pointer_format»
+    ∷ g .«segment_offset»
+    ∷ g .«max_valid_pointer»
+    ∷ g .«page_count»
     ∷ g .place
     ∷ g .count
     ∷ []
@@ -48,11 +49,11 @@ abbrev pub segmentAt : List ℕ → Segment
 segmentAt s =
     record {
       index = wordAt s 0;
-      size = wordAt s 1;
-      format = wordAt s 2;
-      offset = wordAt s 3;
-      limit = wordAt s 4;
-      pages = wordAt s 5;
+      «page_size» = wordAt s 1;
+      «pointer_format» = wordAt s 2;
+      «segment_offset» = wordAt s 3;
+      «max_valid_pointer» = wordAt s 4;
+      «page_count» = wordAt s 5;
       place = wordAt s 6;
       count = wordAt s 7;
     }

@@ -9,7 +9,7 @@ use chains::Segment;
 use chains::SegmentStart;
 use chains::SegmentStep;
 use chains::SegmentWalk;
-use packing::fits;
+use packing::is_record;
 use packing::word;
 use packing::write;
 
@@ -40,7 +40,7 @@ pub fn step(s: &[u8], state: &mut [u8], item: &mut [u8]) -> u64
     if item.len() != 64 {
         return 19;
     }
-    if fits(state, &FIELDS) {
+    if is_record(state, &FIELDS) {
         return tell(held(state).step(s), state, item);
     }
     19
@@ -52,7 +52,7 @@ fn tell(answer: SegmentStep, state: &mut [u8], item: &mut [u8]) -> u64
     ensures { λ r. ⌜ (r, now (state .exit), now (item .exit)) ≡ stepTold states items (told answer) ⌝ }
 {
     match answer {
-        SegmentStep::Item(x, w) => {
+        SegmentStep::Item(w, x) => {
             let kept = words(w);
             write(&kept, state);
             let found = item_words(x);
@@ -65,7 +65,7 @@ fn tell(answer: SegmentStep, state: &mut [u8], item: &mut [u8]) -> u64
             write(&[0, 0, 0, 0, 0, 0, 0, 0], item);
             256
         }
-        SegmentStep::Refused(e, w) => {
+        SegmentStep::Refused(w, e) => {
             let kept = words(w);
             write(&kept, state);
             write(&[0, 0, 0, 0, 0, 0, 0, 0], item);
@@ -85,11 +85,11 @@ fn item_words(x: Segment) -> [u64; 8]
 {
     [
         x.index,
-        x.size as u64,
-        x.format as u64,
-        x.offset,
-        x.limit,
-        x.pages as u64,
+        x.page_size as u64,
+        x.pointer_format as u64,
+        x.segment_offset,
+        x.max_valid_pointer,
+        x.page_count as u64,
         x.place as u64,
         x.count,
     ]

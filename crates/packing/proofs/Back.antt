@@ -11,7 +11,7 @@ use Rattle.numbers.specs.Digits.{fromDigits}
 use Rattle.numbers.specs.LittleEndian.{littleEndian, fieldAt}
 use Rattle.numbers.specs.Then.{thenNumber}
 use Rattle.packing.proofs.Words.{length-word, length-bytes}
-use Rattle.packing.specs.Fields.{flag, u8, u16, u64, withinFrom, fits, isSet, bit}
+use Rattle.packing.specs.Fields.{flag, u8, u16, u64, withinFrom, isRecord, isSet, bit}
 use Rattle.packing.specs.Words.{wordAt, toDigits, wordBytes, bytesOf}
 
 digits-back : (n v : ℕ) → v < 256 ^ n → fromDigits 256 (toDigits 256 n v) ≡ v
@@ -86,9 +86,9 @@ within-back before (one {v} {most} {vs} {rest} m w e) =
     (subst (λ (l : List ℕ). withinFrom (bytesOf l) (length (before ++ (v ∷ []))) rest ≡ true) (append-snoc before v vs) (within-back (before ++ (v ∷ [])) e)) in
     rw (back, le-leb v most m) more
 
-pub fits-back : {vs largest : List ℕ} → Each vs largest → fits (bytesOf vs) largest ≡ true
-unfolding fits
-fits-back {vs} {largest} e =
+pub record-back : {vs largest : List ℕ} → Each vs largest → isRecord (bytesOf vs) largest ≡ true
+unfolding isRecord
+record-back {vs} {largest} e =
     let l : length (bytesOf vs) ≡ 8 * length largest = length-bytes vs ∙ ap (λ (n : ℕ). 8 * n) (each-long e) in
     rw (eq-eqb (length (bytesOf vs)) (8 * length largest) l) (within-back [] e)
 

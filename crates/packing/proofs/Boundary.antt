@@ -39,6 +39,10 @@ module _ {W : Type 0} (S : States W) (state : List ℕ) (b : Begin W) where
   pub not-started : {n : ℕ} → length state ≡ S .long → notBegun n ≡ b → _≡_ {A = ℕ × List ℕ} (n, state) (started S state b)
   not-started l e = started-as l (ap (startTold S state) e)
 
+pub starts-as : {W : Type 0} (S : States W) (state : List ℕ) {y : ℕ × List ℕ} {a b : Begin W} →
+    y ≡ started S state a → a ≡ b → y ≡ started S state b
+starts-as S state e f = e ∙ ap (started S state) f
+
 -- what an answer `r` of the start's own tells
 module _ {W R : Type 0} (S : States W) (T : R → Begin W) where
   pub begins : (state : List ℕ) {r q : R} {b : Begin W} {y : ℕ × List ℕ} → length state ≡ S .long → r ≡ q → T r ≡ b → y ≡ startTold S state (T q) → y ≡ started S state b
@@ -46,27 +50,31 @@ module _ {W R : Type 0} (S : States W) (T : R → Begin W) where
 
 -- ---- a step
 
-module _ {W X : Type 0} (S : States W) (I : Items X) (state told : List ℕ) (call : W → Answer W X) where
-  pub told-unfit : (length told ≡ I .long → ⊥) → _≡_ {A = ℕ × List ℕ × List ℕ} (unfit, state, told) (stepped S I state told call)
+module _ {W X : Type 0} (S : States W) (I : Items X) (state item : List ℕ) (call : W → Answer W X) where
+  pub item-unfit : (length item ≡ I .long → ⊥) →
+      _≡_ {A = ℕ × List ℕ × List ℕ} (unfit, state, item) (stepped S I state item call)
   unfolding stepped
-  told-unfit h = rw (ne-eqb (length told) (I .long) h)
+  item-unfit h = rw (ne-eqb (length item) (I .long) h)
 
-  module _ (l : length told ≡ I .long) where
-    pub by-state : {b : Bool} → S .holds state ≡ b → stepped S I state told call ≡ cond b (stepTold S I (call (S .value state))) (unfit, state, told)
+  module _ (l : length item ≡ I .long) where
+    pub by-state : {b : Bool} → S .holds state ≡ b →
+        stepped S I state item call ≡ cond b (stepTold S I (call (S .value state))) (unfit, state, item)
     unfolding stepped
-    by-state e = rw (eq-eqb (length told) (I .long) l, e)
+    by-state e = rw (eq-eqb (length item) (I .long) l, e)
 
-    pub state-unfit : S .holds state ≡ false → _≡_ {A = ℕ × List ℕ × List ℕ} (unfit, state, told) (stepped S I state told call)
+    pub state-unfit : S .holds state ≡ false →
+        _≡_ {A = ℕ × List ℕ × List ℕ} (unfit, state, item) (stepped S I state item call)
     state-unfit e = sym (by-state e)
 
-    pub stepped-as : {v : W} {y : Answer W X} {z : ℕ × List ℕ × List ℕ} → z ≡ stepTold S I y → y ≡ call v → v ≡ S .value state → S .holds state ≡ true → z ≡ stepped S I state told call
+    pub stepped-as : {v : W} {y : Answer W X} {z : ℕ × List ℕ × List ℕ} → z ≡ stepTold S I y →
+        y ≡ call v → v ≡ S .value state → S .holds state ≡ true → z ≡ stepped S I state item call
     stepped-as f e q h = f ∙ ap (stepTold S I) (e ∙ ap call q) ∙ sym (by-state h)
 
 -- a state that is handed back and given again is the same state: a call on its bytes is a call on it
 module _ {W X : Type 0} (S : States W) (I : Items X) (call : W → Answer W X) (w : W) where
-  pub carried : S .holds (S .bytes w) ≡ true → S .value (S .bytes w) ≡ w → (told : List ℕ) → length told ≡ I .long →
-      stepped S I (S .bytes w) told call ≡ stepTold S I (call w)
-  carried h e told l = by-state S I (S .bytes w) told call l h ∙ ap (λ (v : W). stepTold S I (call v)) e
+  pub carried : S .holds (S .bytes w) ≡ true → S .value (S .bytes w) ≡ w → (item : List ℕ) → length item ≡ I .long →
+      stepped S I (S .bytes w) item call ≡ stepTold S I (call w)
+  carried h e item l = by-state S I (S .bytes w) item call l h ∙ ap (λ (v : W). stepTold S I (call v)) e
 
 -- what an answer `r` of the walk's own tells
 module _ {W X R : Type 0} (S : States W) (I : Items X) (T : R → Answer W X) where

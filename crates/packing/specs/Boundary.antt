@@ -7,7 +7,8 @@ use lib.Dec.{eqb}
 use lib.ListN.{length}
 use Rattle.refusal.specs.Numbers.{numberOf}
 use Rattle.refusal.specs.declared.Refusal.the-variants.{StateOutOfRange}
-use Rattle.runs.specs.Runs.{Begin, begun, notBegun, Answer, item, end, refused}
+use Rattle.runs.specs.Runs.{Begin, begun, notBegun, Answer}
+use Rattle.runs.specs.Runs as answer
 
 -- ---- answers; any other number is that of a refusal
 
@@ -53,10 +54,10 @@ module _ {W : Type 0} (S : States W) (state : List ℕ) where
 
 module _ {W X : Type 0} (S : States W) (I : Items X) where
   abbrev pub stepTold : Answer W X → ℕ × List ℕ × List ℕ
-  stepTold (item x w) = (itemTold, S .bytes w, I .bytes x)
-  stepTold (end w) = (endTold, S .bytes w, I .blank)
-  stepTold (refused n w) = (n, S .bytes w, I .blank)
+  stepTold (answer.item x w) = (itemTold, S .bytes w, I .bytes x)
+  stepTold (answer.end w) = (endTold, S .bytes w, I .blank)
+  stepTold (answer.refused n w) = (n, S .bytes w, I .blank)
 
-  unfoldable pub stepped : (state told : List ℕ) → (W → Answer W X) → ℕ × List ℕ × List ℕ
-  stepped state told call =
-      cond (eqb (length told) (I .long) && S .holds state) (stepTold (call (S .value state))) (unfit, state, told)
+  unfoldable pub stepped : (state item : List ℕ) → (W → Answer W X) → ℕ × List ℕ × List ℕ
+  stepped state item call =
+      cond (eqb (length item) (I .long) && S .holds state) (stepTold (call (S .value state))) (unfit, state, item)

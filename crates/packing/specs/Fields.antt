@@ -27,8 +27,8 @@ unfoldable pub withinFrom : List ℕ → ℕ → (largest : List ℕ) → Bool
 withinFrom s i [] = true
 withinFrom s i (most ∷ rest) = leb (wordAt s i) most && withinFrom s (i + 1) rest
 
-unfoldable pub fits : List ℕ → (largest : List ℕ) → Bool
-fits s largest = eqb (length s) (8 * length largest) && withinFrom s 0 largest
+unfoldable pub isRecord : List ℕ → (largest : List ℕ) → Bool
+isRecord s largest = eqb (length s) (8 * length largest) && withinFrom s 0 largest
 
 -- ---- flags
 

@@ -3,7 +3,7 @@ ghost use mathlib.Core.Path.{_≡_};
 ghost use Prim.Native.Nat.{_+_, _≤_};
 ghost use lib.ListN.{length};
 ghost use lib.Seq.{sets};
-ghost use Rattle.packing.specs.Fields.{bit, fits, signedOf, unsignedOf};
+ghost use Rattle.packing.specs.Fields.{bit, isRecord, signedOf, unsignedOf};
 ghost use Rattle.packing.specs.Words.{wordAt, wordBytes, written};
 use numbers::Number;
 use numbers::little_endian::read_u64;
@@ -25,9 +25,9 @@ pub fn word(s: &[u8], i: usize) -> u64
     0
 }
 
-// Whether there is a word for each field, at most the largest value that the field may have.
-pub fn fits(s: &[u8], largest: &[u64]) -> bool
-    ensures { λ r. ⌜ r ≡ fits (now (s .entry)) (now (largest .entry)) ⌝ }
+// Whether bytes are a record: a word for each field, at most the largest value that the field may have.
+pub fn is_record(s: &[u8], largest: &[u64]) -> bool
+    ensures { λ r. ⌜ r ≡ isRecord (now (s .entry)) (now (largest .entry)) ⌝ }
 {
     if s.len() % 8 != 0 {
         return false;

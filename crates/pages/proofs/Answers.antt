@@ -11,8 +11,9 @@ use Rattle.numbers.proofs.Then.{by-number}
 use Rattle.numbers.specs.LittleEndian.{fieldAt}
 use Rattle.pages.proofs.Calls.{counted, call-live}
 use Rattle.pages.specs.Call.{onPage, toChain, toPointer, onward, chain, opened, pages, soughtBy, seek, refusing, pointer, answered, outOfRange, call}
-use Rattle.pages.specs.ChainedPointers.{startAt, isNone, isMarked, unmarked, widthOf, fixingOf, nextOf, Fixed, fixed}
+use Rattle.pages.specs.ChainedPointers.{startAt, isNone, isMarked, unmarked, widthOf, fixupOf, nextOf, patch}
 use Rattle.pages.specs.declared.PageWalk.{PageWalk}
+use Rattle.pages.specs.declared.Patch.{Patch}
 use Rattle.pages.specs.declared.Sought.{Sought}
 use Rattle.pages.specs.declared.Sought.the-variants as sought
 use Rattle.refusal.specs.declared.Refusal.{Refusal}
@@ -27,7 +28,7 @@ Comes I sought.Beyond = Unit {0}
 
 -- what every step of a search keeps
 pub record Keeps (I : PageWalk → Type 0) : Type 0 where
-  pub on-page : (w : PageWalk) → w .page < w .segment .pages → I w → I (onPage w)
+  pub on-page : (w : PageWalk) → w .page < w .segment .«page_count» → I w → I (onPage w)
   pub to-list : (w : PageWalk) (index : ℕ) → index < 0x8000 → I w → I (toChain index w)
   pub next-chain : (w : PageWalk) → w .chain < w .segment .count → I w → I (toChain (w .chain + 1) w)
   pub to-pointer : (w : PageWalk) (more : Bool) (place : ℕ) → place < 0x8000 → I w → I (toPointer more (w .origin + place) w)
@@ -48,7 +49,7 @@ module _ (s : List ℕ) {I : PageWalk → Type 0} (k : Keeps I) where
       by true e = by-chain (toChain (unmarked start) w) (k .to-list w (unmarked start) (omega arith) i)
       by false e = k .to-pointer w false start (leb-false 0x8000 start e) i
 
-  by-pages : (n : ℕ) (w : PageWalk) → w .segment .pages - w .page ≡ n → I w → Comes I (pages s n w)
+  by-pages : (n : ℕ) (w : PageWalk) → w .segment .«page_count» - w .page ≡ n → I w → Comes I (pages s n w)
   unfolding pages
   by-pages zero w e i = i
   by-pages (suc n) w e i =
@@ -63,15 +64,15 @@ module _ (s : List ℕ) {I : PageWalk → Type 0} (k : Keeps I) where
       by : (linked more : Bool) → Comes I (soughtBy s linked more w)
       by true more = i
       by false true = by-chain w i
-      by false false = by-pages (w .segment .pages - w .page) w refl i
+      by false false = by-pages (w .segment .«page_count» - w .page) w refl i
 
 -- of the answers, by what the search comes to
-module _ (s d : List ℕ) (given : PageWalk) {I : PageWalk → Type 0} (Q : Answer PageWalk Fixed → Type 0) (k : Keeps I)
+module _ (s d : List ℕ) (given : PageWalk) {I : PageWalk → Type 0} (Q : Answer PageWalk Patch → Type 0) (k : Keeps I)
     (refuses : (e : Refusal) → Q (refusing given e)) (ends : (w : PageWalk) → I w → Q (end w))
-    (gives : (w : PageWalk) (n : ℕ) → I w → Q (item (fixed (w .offset) (fixingOf (w .segment .format) (w .base) n)) (onward (nextOf (w .segment .format) n) w))) where
+    (gives : (w : PageWalk) (n : ℕ) → I w → Q (item (patch (w .offset) (fixupOf (w .segment .«pointer_format») (w .base) n)) (onward (nextOf (w .segment .«pointer_format») n) w))) where
   by-answer : (x : Sought) → Comes I x → Q (answered d given x)
   unfolding answered pointer
-  by-answer (sought.At w) i = by-number (fieldAt (widthOf (w .segment .format)) d (w .offset)) _ _ Q (refuses PointerOutside) (λ n after e. gives w n i)
+  by-answer (sought.At w) i = by-number (fieldAt (widthOf (w .segment .«pointer_format»)) d (w .offset)) _ _ Q (refuses PointerOutside) (λ n after e. gives w n i)
   by-answer (sought.End w) i = ends w i
   by-answer sought.Beyond i = refuses BeyondStarts
 

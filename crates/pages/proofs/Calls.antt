@@ -18,10 +18,12 @@ use Rattle.numbers.specs.declared.Number.{Number}
 use Rattle.numbers.specs.declared.Number.the-variants.{Value, Fault}
 use Rattle.pages.proofs.Moves.{in-range}
 use Rattle.pages.specs.Call.{onPage, toChain, toPointer, onward, chain, opened, pages, soughtBy, seek, refusing, pointer, answered, farthest, outOfRange, call}
-use Rattle.pages.specs.ChainedPointers.{startAt, isNone, isMarked, widthOf, Fixing, fixingOf, nextOf, Fixed, fixed}
+use Rattle.pages.specs.ChainedPointers.{startAt, isNone, isMarked, widthOf, fixupOf, nextOf, patch}
 use Rattle.pages.specs.declared.PageWalk.{PageWalk}
+use Rattle.pages.specs.declared.Patch.{Patch}
 use Rattle.pages.specs.declared.Sought.{Sought}
 use Rattle.pages.specs.declared.Sought.the-variants as sought
+use Rattle.pages.specs.declared.pointer.Fixup.{Fixup}
 use Rattle.refusal.specs.Numbers.{numberOf}
 use Rattle.refusal.specs.declared.Refusal.the-variants.{BeyondStarts, PointerOutside, StateOutOfRange}
 use Rattle.runs.specs.Runs.{Answer, item, end, refused}
@@ -86,7 +88,7 @@ pub ruleset opens = (open-chain, open-pointer, chain-inside, chain-near)
 pub record Paging (s : List ℕ) (from w : PageWalk) : Type 0 where
   pub inside : from .segment .place + 2 * from .segment .count ≤ length s
   pub same : w .segment ≡ from .segment
-  pub rest : pages s (from .segment .pages - from .page) from ≡ pages s (from .segment .pages - w .page) w
+  pub rest : pages s (from .segment .«page_count» - from .page) from ≡ pages s (from .segment .«page_count» - w .page) w
 
 module _ (s : List ℕ) (from : PageWalk) where
   pub paging-starts : from .segment .place + 2 * from .segment .count ≤ length s → Paging s from from
@@ -94,18 +96,18 @@ module _ (s : List ℕ) (from : PageWalk) where
 
   -- what the pages come to
   abbrev Whole : Sought
-  Whole = pages s (from .segment .pages - from .page) from
+  Whole = pages s (from .segment .«page_count» - from .page) from
 
   module _ {w : PageWalk} (p : Paging s from w) where
-    pub paging-end : from .segment .pages ≤ w .page → sought.End w ≡ Whole
+    pub paging-end : from .segment .«page_count» ≤ w .page → sought.End w ≡ Whole
     unfolding pages
     paging-end h = sym (p .rest ∙ ap (λ (n : ℕ). pages s n w) none-left)
       where
-        none-left : from .segment .pages - w .page ≡ 0
+        none-left : from .segment .«page_count» - w .page ≡ 0
         none-left = omega arith
 
-    module _ (h : w .page < from .segment .pages) where
-      pub paging-page : w .page < w .segment .pages
+    module _ (h : w .page < from .segment .«page_count») where
+      pub paging-page : w .page < w .segment .«page_count»
       paging-page = rw (p .same) h
 
       module _ {r : Number} (e : r ≡ startAt s (from .segment) (w .page)) where
@@ -113,7 +115,7 @@ module _ (s : List ℕ) (from : PageWalk) where
         abbrev Behind : Number → Sought
         Behind q =
             thenNumber q sought.Beyond
-            (λ start after. cond (isNone start) (pages s (from .segment .pages - (w .page + 1)) (onPage w)) (opened s (onPage w) start))
+            (λ start after. cond (isNone start) (pages s (from .segment .«page_count» - (w .page + 1)) (onPage w)) (opened s (onPage w) start))
 
         by-start : {q : Number} → r ≡ q → Whole ≡ Behind q
         unfolding pages
@@ -121,7 +123,7 @@ module _ (s : List ℕ) (from : PageWalk) where
             p .rest ∙ ap (λ (n : ℕ). pages s n w) next-left
             ∙ ap Behind (ap (λ (g : Segment). startAt s g (w .page)) (p .same) ∙ sym e ∙ f)
           where
-            next-left : from .segment .pages - w .page ≡ suc (from .segment .pages - (w .page + 1))
+            next-left : from .segment .«page_count» - w .page ≡ suc (from .segment .«page_count» - (w .page + 1))
             next-left = omega arith
 
         pub paging-out : r ≡ Fault → sought.Beyond ≡ Whole
@@ -161,7 +163,7 @@ module _ (s : List ℕ) (w : PageWalk) where
     unfolding soughtBy
     seek-chain i q = q ∙ sym (sought-by h i)
 
-    pub seek-pages : w .more ≡ false → y ≡ pages s (w .segment .pages - w .page) w → y ≡ seek s w
+    pub seek-pages : w .more ≡ false → y ≡ pages s (w .segment .«page_count» - w .page) w → y ≡ seek s w
     unfolding soughtBy
     seek-pages i q = q ∙ sym (sought-by h i)
 
@@ -169,13 +171,13 @@ pub ruleset seeks = (seek-pointer, seek-chain, seek-pages)
 
 -- ---- a pointer is due
 
-module _ (d : List ℕ) (given w : PageWalk) {r : Number} (e : r ≡ fieldAt (widthOf (w .segment .format)) d (w .offset)) {y : Answer PageWalk Fixed} where
+module _ (d : List ℕ) (given w : PageWalk) {r : Number} (e : r ≡ fieldAt (widthOf (w .segment .«pointer_format»)) d (w .offset)) {y : Answer PageWalk Patch} where
   pub pointer-out : r ≡ Fault → y ≡ refusing given PointerOutside → y ≡ pointer d given w
   unfolding pointer thenNumber
   pointer-out f q = rw (sym e ∙ f) q
 
-  pub pointer-read : {n next : ℕ} → r ≡ Value n next → {x : Fixing} → x ≡ fixingOf (w .segment .format) (w .base) n → {k : ℕ} → k ≡ nextOf (w .segment .format) n →
-      {v : PageWalk} → v ≡ onward k w → y ≡ item (fixed (w .offset) x) v → y ≡ pointer d given w
+  pub pointer-read : {n next : ℕ} → r ≡ Value n next → {x : Fixup} → x ≡ fixupOf (w .segment .«pointer_format») (w .base) n → {k : ℕ} → k ≡ nextOf (w .segment .«pointer_format») n →
+      {v : PageWalk} → v ≡ onward k w → y ≡ item (patch (w .offset) x) v → y ≡ pointer d given w
   unfolding pointer thenNumber
   pointer-read f g h i q = rw (sym e ∙ f) (q ∙ rw (g, i, h))
 
@@ -209,15 +211,15 @@ module _ (s d : List ℕ) (w : PageWalk) {r : Bool} (e : r ≡ outOfRange w (len
         by-sought : {q : Sought} → x ≡ q → call s d w ≡ answered d w q
         by-sought k = call-live ∙ ap (answered d w) (sym h ∙ k)
 
-        pub call-at : {v : PageWalk} {y : Answer PageWalk Fixed} → x ≡ sought.At v → y ≡ pointer d w v → y ≡ call s d w
+        pub call-at : {v : PageWalk} {y : Answer PageWalk Patch} → x ≡ sought.At v → y ≡ pointer d w v → y ≡ call s d w
         unfolding answered
         call-at k q = q ∙ sym (by-sought k)
 
-        pub call-end : {v : PageWalk} {y : Answer PageWalk Fixed} → x ≡ sought.End v → y ≡ end v → y ≡ call s d w
+        pub call-end : {v : PageWalk} {y : Answer PageWalk Patch} → x ≡ sought.End v → y ≡ end v → y ≡ call s d w
         unfolding answered
         call-end k q = q ∙ sym (by-sought k)
 
-        pub call-beyond : {y : Answer PageWalk Fixed} → x ≡ sought.Beyond → y ≡ refusing w BeyondStarts → y ≡ call s d w
+        pub call-beyond : {y : Answer PageWalk Patch} → x ≡ sought.Beyond → y ≡ refusing w BeyondStarts → y ≡ call s d w
         unfolding answered
         call-beyond k q = q ∙ sym (by-sought k)
 

@@ -15,8 +15,8 @@ use Rattle.numbers.specs.LittleEndian.{fieldAt}
 use Rattle.numbers.specs.Then.{thenNumber}
 use Rattle.numbers.specs.declared.Number.{Number}
 use Rattle.numbers.specs.declared.Number.the-variants.{Value, Fault}
-use Rattle.pages.specs.ChainedPointers.{isNarrow, widthOf, fixingOf, nextOf, fixed}
-use Rattle.pages.specs.Listing.{Page, Entry, entry, outside, following, chainIn, chain}
+use Rattle.pages.specs.ChainedPointers.{isNarrow, widthOf, fixupOf, nextOf, patch}
+use Rattle.pages.specs.Listing.{Page, Paged, paged, outside, following, chainIn, chain}
 use Rattle.runs.specs.Runs.{Run, stops, gives}
 
 -- a pointer has bytes
@@ -29,24 +29,24 @@ has-width format = by (isNarrow format)
 
 module _ (s d : List ℕ) (g : Segment) (base : ℕ) (p : Page) where
   -- what follows the read of a pointer, with what lists the rest of its chain
-  abbrev Behind : (rest : ℕ → Run Entry) (place : ℕ) → Number → Run Entry
+  abbrev Behind : (rest : ℕ → Run Paged) (place : ℕ) → Number → Run Paged
   Behind rest place x =
       thenNumber x outside
       (λ n after.
-      gives (entry p (fixed place (fixingOf (g .format) base n))) (following rest place (nextOf (g .format) n)))
+      gives (paged p (patch place (fixupOf (g .«pointer_format») base n))) (following rest place (nextOf (g .«pointer_format») n)))
 
-  no-pointer : (place : ℕ) → length d ≤ place → fieldAt (widthOf (g .format)) d place ≡ Fault
-  no-pointer place h = field-out (widthOf (g .format)) d place (omega (arith, has-width (g .format)))
+  no-pointer : (place : ℕ) → length d ≤ place → fieldAt (widthOf (g .«pointer_format»)) d place ≡ Fault
+  no-pointer place h = field-out (widthOf (g .«pointer_format»)) d place (omega (arith, has-width (g .«pointer_format»)))
 
   -- what lists alike, lists the rest alike
-  by-read : (rest more : ℕ → Run Entry) (place : ℕ) →
+  by-read : (rest more : ℕ → Run Paged) (place : ℕ) →
       ((next : ℕ) → (next ≡ 0 → ⊥) → rest (place + next) ≡ more (place + next)) → (x : Number) →
       Behind rest place x ≡ Behind more place x
   unfolding thenNumber
   by-read rest more place h Fault = refl
   by-read rest more place h (Value n after) =
-      ap (gives (entry p (fixed place (fixingOf (g .format) base n))))
-      (by-next (nextOf (g .format) n) (eqb (nextOf (g .format) n) 0) refl)
+      ap (gives (paged p (patch place (fixupOf (g .«pointer_format») base n))))
+      (by-next (nextOf (g .«pointer_format») n) (eqb (nextOf (g .«pointer_format») n) 0) refl)
     where
       by-next : (next : ℕ) (t : Bool) → eqb next 0 ≡ t → cond t stops (rest (place + next)) ≡ cond t stops (more (place + next))
       by-next next true e = refl
@@ -58,11 +58,11 @@ module _ (s d : List ℕ) (g : Segment) (base : ℕ) (p : Page) where
   enough zero place h = sym (ap (Behind (chainIn s d g base p 0) place) (no-pointer place (omega arith)))
   enough (suc k) place h =
       by-read (chainIn s d g base p k) (chainIn s d g base p (suc k)) place
-      (λ next n. enough k (place + next) (omega (arith, h, n))) (fieldAt (widthOf (g .format)) d place)
+      (λ next n. enough k (place + next) (omega (arith, h, n))) (fieldAt (widthOf (g .«pointer_format»)) d place)
 
   -- a chain is its first pointer, and then the chain from the next on
   pub chain-by : (place : ℕ) →
-      chain s d g base p place ≡ Behind (chain s d g base p) place (fieldAt (widthOf (g .format)) d place)
+      chain s d g base p place ≡ Behind (chain s d g base p) place (fieldAt (widthOf (g .«pointer_format»)) d place)
   unfolding chain chainIn
   chain-by place = enough (length d) place (omega arith)
 

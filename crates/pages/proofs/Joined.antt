@@ -15,9 +15,10 @@ use Rattle.pages.proofs.Ahead.{ahead, says}
 use Rattle.pages.proofs.Answers.{by-call}
 use Rattle.pages.proofs.Moves.{origin-within}
 use Rattle.pages.specs.Call.{startsOut, atStart, begin, onward, farthest, outOfRange, call}
-use Rattle.pages.specs.ChainedPointers.{isFormat, nextOf, Fixed}
+use Rattle.pages.specs.ChainedPointers.{isFormat, nextOf}
 use Rattle.pages.specs.Listing.{pages, listing, heard}
 use Rattle.pages.specs.declared.PageWalk.{PageWalk}
+use Rattle.pages.specs.declared.Patch.{Patch}
 use Rattle.runs.proofs.Walks.{Stays, walks-ahead, walks-one}
 use Rattle.runs.specs.Runs.{Begin, begun, notBegun, Run, fails, mapped, Walks}
 
@@ -26,7 +27,7 @@ module _ (s d : List ℕ) (short : length d < 2 ^ 64) where
   pub record Going (g : Segment) (origin : ℕ) (ended : Bool) : Type 0 where
     pub typed : TypedSegment g
     pub inside : startsOut g (length s) ≡ false
-    pub format : isFormat (g .format) ≡ true
+    pub format : isFormat (g .«pointer_format») ≡ true
     pub near : origin ≤ farthest
     pub live : ended ≡ false
 
@@ -48,7 +49,7 @@ module _ (s d : List ℕ) (short : length d < 2 ^ 64) where
               typed = i .typed;
               inside = i .inside;
               format = i .format;
-              near = origin-within {pages = v .segment .pages} l (omega (arith, i .typed .pages)) (omega (arith, i .typed .size));
+              near = origin-within {pages = v .segment .«page_count»} l (omega (arith, i .typed .«page_count»)) (omega (arith, i .typed .«page_size»));
               live = i .live;
             };
         to-list = λ v index l i. i;
@@ -57,7 +58,7 @@ module _ (s d : List ℕ) (short : length d < 2 ^ 64) where
       })
       (λ e. tt)
       (λ v i. tt)
-      (λ v n i. by-pick Goes (eqb (nextOf (v .segment .format) n) 0) _ _ i i)
+      (λ v n i. by-pick Goes (eqb (nextOf (v .segment .«pointer_format») n) 0) _ _ i i)
       (in-range w h) (h .live) h
 
   -- calls from any state that goes on, made up or not, say what it has still to list; so every walk ends
@@ -77,12 +78,12 @@ module _ (s d : List ℕ) (short : length d < 2 ^ 64) where
 
     starts : Starts (begin s g base)
     unfolding begin listing mapped
-    starts = by (startsOut g (length s)) (isFormat (g .format)) refl refl
+    starts = by (startsOut g (length s)) (isFormat (g .«pointer_format»)) refl refl
       where
-        by : (a b : Bool) → startsOut g (length s) ≡ a → isFormat (g .format) ≡ b → Starts (cond a (notBegun 19) (cond b (begun (atStart g base)) (notBegun 11)))
+        by : (a b : Bool) → startsOut g (length s) ≡ a → isFormat (g .«pointer_format») ≡ b → Starts (cond a (notBegun 19) (cond b (begun (atStart g base)) (notBegun 11)))
         by true b e f = inl refl
         by false true e f =
-            let z : g .pages ≡ g .pages - 0 = omega arith in
+            let z : g .«page_count» ≡ g .«page_count» - 0 = omega arith in
             record {
               going = record { typed = t; inside = e; format = f; near = omega arith; live = refl };
               all = rw f (ap (λ (n : ℕ). pages s d g base n 0) z);
@@ -96,7 +97,7 @@ module _ (s d : List ℕ) (short : length d < 2 ^ 64) where
         subst (Walks (call s d) w) (ap heard (sym (b .all))) (walks w (b .going))
 
     -- and nothing else
-    pub joined-only : (w : PageWalk) {r : Run Fixed} → begin s g base ≡ begun w → Walks (call s d) w r →
+    pub joined-only : (w : PageWalk) {r : Run Patch} → begin s g base ≡ begun w → Walks (call s d) w r →
         r ≡ heard (listing s d g base)
     joined-only w e h = walks-one (call s d) h (joined w e)
 

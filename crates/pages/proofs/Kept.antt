@@ -7,8 +7,8 @@ use lib.ListN.{length}
 use Rattle.pages.proofs.Answers.{by-call}
 use Rattle.pages.proofs.Calls.{call-ended}
 use Rattle.pages.specs.Call.{marked, outOfRange, call}
-use Rattle.pages.specs.ChainedPointers.{Fixed}
 use Rattle.pages.specs.declared.PageWalk.{PageWalk}
+use Rattle.pages.specs.declared.Patch.{Patch}
 use Rattle.refusal.specs.Numbers.{numberOf}
 use Rattle.refusal.specs.declared.Refusal.the-variants.{StateOutOfRange}
 use Rattle.runs.proofs.Walks.{IfRefused}
@@ -21,7 +21,7 @@ module _ (s d : List ℕ) (w : PageWalk) where
   out-of-range e = rw e
 
   module _ (i : outOfRange w (length s) ≡ false) where
-    abbrev Marked : Answer PageWalk Fixed → Type 0
+    abbrev Marked : Answer PageWalk Patch → Type 0
     Marked = IfRefused (λ v. v ≡ marked w)
 
     marks : Marked (call s d w)

@@ -4,7 +4,7 @@ pub mod Moves
 pub mod Calls
 pub mod Answers
 pub mod Chains
-pub mod Entries
+pub mod Paged
 pub mod Ahead
 pub mod Joined
 pub mod Kept

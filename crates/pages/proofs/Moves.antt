@@ -21,7 +21,7 @@ module _ (w : PageWalk) (len : ℕ) {r : Bool} (e : r ≡ startsOut (w .segment)
   pub range-starts : r ≡ true → true ≡ outOfRange w len
   range-starts f = rw (sym e ∙ f)
 
-  module _ (f : r ≡ false) {q : Bool} (g : q ≡ isFormat (w .segment .format)) where
+  module _ (f : r ≡ false) {q : Bool} (g : q ≡ isFormat (w .segment .«pointer_format»)) where
     pub range-origin : q ≡ true → ltb farthest (w .origin) ≡ outOfRange w len
     range-origin h = rw (sym e ∙ f, sym g ∙ h)
 
@@ -34,8 +34,8 @@ pub record InRange (s : List ℕ) (w : PageWalk) : Type 0 where
 
 pub in-range : (s : List ℕ) (w : PageWalk) → outOfRange w (length s) ≡ false → InRange s w
 in-range s w e =
-    let a = neither (startsOut (w .segment) (length s)) (not (isFormat (w .segment .format)) || ltb farthest (w .origin)) e in
-    let b = neither (not (isFormat (w .segment .format))) (ltb farthest (w .origin)) (a .1) in
+    let a = neither (startsOut (w .segment) (length s)) (not (isFormat (w .segment .«pointer_format»)) || ltb farthest (w .origin)) e in
+    let b = neither (not (isFormat (w .segment .«pointer_format»))) (ltb farthest (w .origin)) (a .1) in
     record {
       inside = ltb-false (length s) (w .segment .place + 2 * w .segment .count) (a .0);
       near = ltb-false farthest (w .origin) (b .1);
@@ -57,7 +57,7 @@ origin-fits {size = size} h k l = record { fits = omega (arith, origin-near {siz
 
 pub ruleset origins = (origin-near, origin-fits)
 
-pub page-is : (w : PageWalk) {origin : ℕ} → origin ≡ w .page * w .segment .size →
+pub page-is : (w : PageWalk) {origin : ℕ} → origin ≡ w .page * w .segment .«page_size» →
     moved w (w .linked) (w .more) (w .page + 1) (w .chain) origin (w .offset) ≡ onPage w
 page-is w e = ap (λ (o : ℕ). moved w (w .linked) (w .more) (w .page + 1) (w .chain) o (w .offset)) e
 

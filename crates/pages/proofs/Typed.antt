@@ -17,8 +17,11 @@ use Rattle.pages.proofs.Answers.{Keeps, by-call}
 use Rattle.pages.proofs.Calls.{call-out, call-ended}
 use Rattle.pages.proofs.Moves.{in-range, origin-within}
 use Rattle.pages.specs.Call.{startsOut, begin, marked, moved, onPage, toChain, toPointer, onward, refusing, farthest, outOfRange, call}
-use Rattle.pages.specs.ChainedPointers.{isFormat, isNarrow, baseOf, minus, Fixing, rebase, bind, wideFixing, narrowFixing, fixingOf, nextOf, Fixed, fixed}
+use Rattle.pages.specs.ChainedPointers.{isFormat, isNarrow, baseOf, minus, wideFixup, narrowFixup, fixupOf, nextOf, patch}
 use Rattle.pages.specs.declared.PageWalk.{PageWalk}
+use Rattle.pages.specs.declared.Patch.{Patch}
+use Rattle.pages.specs.declared.pointer.Fixup.{Fixup}
+use Rattle.pages.specs.declared.pointer.Fixup.the-variants.{Rebase, Bind}
 use Rattle.refusal.proofs.Numbered.{IsNumber, is-number}
 use Rattle.refusal.specs.Numbers.{numberOf}
 use Rattle.refusal.specs.declared.Refusal.{Refusal}
@@ -40,7 +43,7 @@ unfolding begin
 typed-begin s g base t h e =
     subst (IfBegun Typed) e
     (by-pick (IfBegun Typed) (startsOut g (length s)) _ _ tt
-    (by-pick (IfBegun Typed) (isFormat (g .format)) _ _
+    (by-pick (IfBegun Typed) (isFormat (g .«pointer_format»)) _ _
     (record { segment = t; base = h; page = omega arith; chain = omega arith; origin = omega arith; offset = omega arith })
     tt))
 
@@ -55,11 +58,11 @@ typed-moved : (w : PageWalk) → Typed w → {linked more : Bool} {page chain or
     Typed (moved w linked more page chain origin offset)
 typed-moved w t p c o f = record { segment = t .segment; base = t .base; page = p; chain = c; origin = o; offset = f }
 
-near-page : (w : PageWalk) → w .page < w .segment .pages → Near w → Near (onPage w)
+near-page : (w : PageWalk) → w .page < w .segment .«page_count» → Near w → Near (onPage w)
 near-page w l i =
     let t = i .typed in
-    let n = origin-within {page = w .page} {size = w .segment .size} l (omega (arith, t .segment .pages)) (omega (arith, t .segment .size)) in
-    record { typed = typed-moved w t (omega (arith, t .segment .pages)) (t .chain) (omega (arith, n)) (t .offset); near = n }
+    let n = origin-within {page = w .page} {size = w .segment .«page_size»} l (omega (arith, t .segment .«page_count»)) (omega (arith, t .segment .«page_size»)) in
+    record { typed = typed-moved w t (omega (arith, t .segment .«page_count»)) (t .chain) (omega (arith, n)) (t .offset); near = n }
 
 near-chain : (w : PageWalk) (index : ℕ) → index < 2 ^ 64 → Near w → Near (toChain index w)
 near-chain w index l i =
@@ -92,35 +95,35 @@ typed-marked w t =
 
 -- ---- an item
 
-abbrev pub TypedFixing : Fixing → Type 0
-TypedFixing (rebase target) = target < 2 ^ 64
-TypedFixing (bind ordinal addend) = (ordinal < 2 ^ 64) × (addend < 2 ^ 64)
+abbrev pub TypedFixup : Fixup → Type 0
+TypedFixup (Rebase r) = r .target < 2 ^ 64
+TypedFixup (Bind b) = (b .ordinal < 2 ^ 64) × (b .addend < 2 ^ 64)
 
-typed-narrow : (base n : ℕ) → TypedFixing (narrowFixing base n)
-unfolding narrowFixing
-typed-narrow base n = by-pick TypedFixing (eqb (bits 31 1 n) 1) _ _ (omega arith, omega arith) (omega arith)
+typed-narrow : (base n : ℕ) → TypedFixup (narrowFixup base n)
+unfolding narrowFixup
+typed-narrow base n = by-pick TypedFixup (eqb (bits 31 1 n) 1) _ _ (omega arith, omega arith) (omega arith)
 
-typed-wide : (base n : ℕ) → TypedFixing (wideFixing base n)
-unfolding wideFixing
+typed-wide : (base n : ℕ) → TypedFixup (wideFixup base n)
+unfolding wideFixup
 typed-wide base n =
-    by-pick TypedFixing (eqb (bits 63 1 n) 1) _ _ (omega arith, omega arith)
+    by-pick TypedFixup (eqb (bits 63 1 n) 1) _ _ (omega arith, omega arith)
     (or-lt 64 (minus (bits 0 36 n) base) (bits 36 8 n * 2 ^ 56) (omega arith) (omega arith))
 
-typed-fixing : (format base n : ℕ) → TypedFixing (fixingOf format base n)
-unfolding fixingOf
-typed-fixing format base n =
-    by-pick TypedFixing (isNarrow format) _ _ (typed-narrow (baseOf format base) n) (typed-wide (baseOf format base) n)
+typed-fixup : (format base n : ℕ) → TypedFixup (fixupOf format base n)
+unfolding fixupOf
+typed-fixup format base n =
+    by-pick TypedFixup (isNarrow format) _ _ (typed-narrow (baseOf format base) n) (typed-wide (baseOf format base) n)
 
-pub record TypedFixed (x : Fixed) : Type 0 where
+pub record TypedPatch (x : Patch) : Type 0 where
   pub place : x .place < 2 ^ 64
-  pub fixing : TypedFixing (x .fixing)
+  pub fixup : TypedFixup (x .fixup)
 
 -- ---- a call
 
 module _ (s d : List ℕ) (w : PageWalk) (t : Typed w) where
   -- what holds of its answer, by what holds where the states on the way are typed
-  by-typed : (Q : Answer PageWalk Fixed → Type 0) → Q (refused (numberOf StateOutOfRange) w) → ((e : Refusal) → Q (refusing w e)) → ((v : PageWalk) → Typed v → Q (end v)) →
-      ((v : PageWalk) (n : ℕ) → Typed v → Q (item (fixed (v .offset) (fixingOf (v .segment .format) (v .base) n)) (onward (nextOf (v .segment .format) n) v))) → Q (call s d w)
+  by-typed : (Q : Answer PageWalk Patch → Type 0) → Q (refused (numberOf StateOutOfRange) w) → ((e : Refusal) → Q (refusing w e)) → ((v : PageWalk) → Typed v → Q (end v)) →
+      ((v : PageWalk) (n : ℕ) → Typed v → Q (item (patch (v .offset) (fixupOf (v .segment .«pointer_format») (v .base) n)) (onward (nextOf (v .segment .«pointer_format») n) v))) → Q (call s d w)
   by-typed Q out refuses ends gives = by (outOfRange w (length s)) (w .ended) refl refl
     where
       by : (a b : Bool) → outOfRange w (length s) ≡ a → w .ended ≡ b → Q (call s d w)
@@ -133,11 +136,11 @@ module _ (s d : List ℕ) (w : PageWalk) (t : Typed w) where
   pub typed-call : Hands Typed IsNumber (call s d w)
   typed-call =
       by-typed (Hands Typed IsNumber) (t, is-number StateOutOfRange) (λ e. (typed-marked w t, is-number e)) (λ v u. u)
-      (λ v n u. typed-onward (nextOf (v .segment .format) n) v u)
+      (λ v n u. typed-onward (nextOf (v .segment .«pointer_format») n) v u)
 
   -- every item that is yielded has fields such as their types have
-  pub typed-item : {x : Fixed} {v : PageWalk} → call s d w ≡ item x v → TypedFixed x
+  pub typed-item : {x : Patch} {v : PageWalk} → call s d w ≡ item x v → TypedPatch x
   typed-item e =
-      subst (IfItem TypedFixed) e
-      (by-typed (IfItem TypedFixed) tt (λ e. tt) (λ v u. tt)
-      (λ v n u. record { place = u .offset; fixing = typed-fixing (v .segment .format) (v .base) n }))
+      subst (IfItem TypedPatch) e
+      (by-typed (IfItem TypedPatch) tt (λ e. tt) (λ v u. tt)
+      (λ v n u. record { place = u .offset; fixup = typed-fixup (v .segment .«pointer_format») (v .base) n }))

@@ -8,8 +8,10 @@ use lib.ListN.{length}
 use Rattle.chains.specs.declared.Segment.{Segment}
 use Rattle.numbers.specs.LittleEndian.{fieldAt}
 use Rattle.numbers.specs.Then.{thenNumber}
-use Rattle.pages.specs.ChainedPointers.{startAt, isNone, isMarked, unmarked, isFormat, widthOf, fixingOf, nextOf, Fixed, fixed}
+use Rattle.pages.specs.ChainedPointers.{startAt, isNone, isMarked, unmarked, isFormat, widthOf}
+use Rattle.pages.specs.ChainedPointers.{fixupOf, nextOf, patch}
 use Rattle.pages.specs.declared.PageWalk.{PageWalk}
+use Rattle.pages.specs.declared.Patch.{Patch}
 use Rattle.pages.specs.declared.Sought.{Sought}
 use Rattle.pages.specs.declared.Sought.the-variants as sought
 use Rattle.refusal.specs.Numbers.{numberOf}
@@ -31,7 +33,7 @@ atStart g base =
 unfoldable pub begin : List ℕ → Segment → (base : ℕ) → Begin PageWalk
 begin s g base =
     cond (startsOut g (length s)) (notBegun (numberOf StateOutOfRange))
-    (cond (isFormat (g .format)) (begun (atStart g base)) (notBegun (numberOf UnsupportedFormat)))
+    (cond (isFormat (g .«pointer_format»)) (begun (atStart g base)) (notBegun (numberOf UnsupportedFormat)))
 
 -- ---- what becomes of a state
 
@@ -66,7 +68,7 @@ moved w linked more page chain origin offset =
 
 -- the start of the next page is read
 abbrev pub onPage : PageWalk → PageWalk
-onPage w = moved w (w .linked) (w .more) (w .page + 1) (w .chain) (w .page * w .segment .size) (w .offset)
+onPage w = moved w (w .linked) (w .more) (w .page + 1) (w .chain) (w .page * w .segment .«page_size») (w .offset)
 
 -- the start of a chain is due, of this index
 abbrev pub toChain : (index : ℕ) → PageWalk → PageWalk
@@ -108,7 +110,7 @@ module _ (s : List ℕ) where
   unfoldable pub soughtBy : (linked more : Bool) → PageWalk → Sought
   soughtBy true more w = sought.At w
   soughtBy false true w = chain w
-  soughtBy false false w = pages (w .segment .pages - w .page) w
+  soughtBy false false w = pages (w .segment .«page_count» - w .page) w
 
   abbrev pub seek : PageWalk → Sought
   seek w = soughtBy (w .linked) (w .more) w
@@ -116,16 +118,17 @@ module _ (s : List ℕ) where
 -- ---- a call
 
 -- any refusal but 19 hands back the state as given, marked as ended
-abbrev pub refusing : (given : PageWalk) → Refusal → Answer PageWalk Fixed
+abbrev pub refusing : (given : PageWalk) → Refusal → Answer PageWalk Patch
 refusing given e = refused (numberOf e) (marked given)
 
 -- a pointer is due
-unfoldable pub pointer : List ℕ → (given : PageWalk) → PageWalk → Answer PageWalk Fixed
+unfoldable pub pointer : List ℕ → (given : PageWalk) → PageWalk → Answer PageWalk Patch
 pointer d given w =
-    thenNumber (fieldAt (widthOf (w .segment .format)) d (w .offset)) (refusing given PointerOutside)
-    (λ n after. item (fixed (w .offset) (fixingOf (w .segment .format) (w .base) n)) (onward (nextOf (w .segment .format) n) w))
+    let format = w .segment .«pointer_format» in
+    thenNumber (fieldAt (widthOf format) d (w .offset)) (refusing given PointerOutside)
+    (λ n after. item (patch (w .offset) (fixupOf format (w .base) n)) (onward (nextOf format n) w))
 
-unfoldable pub answered : List ℕ → (given : PageWalk) → Sought → Answer PageWalk Fixed
+unfoldable pub answered : List ℕ → (given : PageWalk) → Sought → Answer PageWalk Patch
 answered d given (sought.At w) = pointer d given w
 answered d given (sought.End w) = end w
 answered d given sought.Beyond = refusing given BeyondStarts
@@ -137,9 +140,10 @@ farthest = 65535 * 65535
 -- 19: the starts do not lie in the bytes, the format is not 2, 3 or 6, or the page's offset is above `farthest`. Indexes and the pointer's
 -- offset may be any: they fall to 12 and 13
 abbrev pub outOfRange : PageWalk → (len : ℕ) → Bool
-outOfRange w len = startsOut (w .segment) len || (not (isFormat (w .segment .format)) || ltb farthest (w .origin))
+outOfRange w len =
+    startsOut (w .segment) len || (not (isFormat (w .segment .«pointer_format»)) || ltb farthest (w .origin))
 
-unfoldable pub call : List ℕ → List ℕ → PageWalk → Answer PageWalk Fixed
+unfoldable pub call : List ℕ → List ℕ → PageWalk → Answer PageWalk Patch
 call s d w =
     cond (outOfRange w (length s)) (refused (numberOf StateOutOfRange) w)
     (cond (w .ended) (end w)

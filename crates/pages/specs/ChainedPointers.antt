@@ -9,6 +9,9 @@ use Rattle.chains.specs.declared.Segment.{Segment}
 use Rattle.numbers.specs.LittleEndian.{fieldAt}
 use Rattle.numbers.specs.declared.Number.{Number}
 use Rattle.numbers.specs.declared.Number.the-variants as number
+use Rattle.pages.specs.declared.Patch.{Patch}
+use Rattle.pages.specs.declared.pointer.Fixup.{Fixup}
+use Rattle.pages.specs.declared.pointer.Fixup.the-variants.{Rebase, Bind}
 
 -- ---- starts, of two bytes each: one for each page, then the lists of chains
 
@@ -52,10 +55,13 @@ stride = 4
 
 -- ---- pointers
 
--- what the loader makes of a pointer: it is to be this far from the start of the image, or the import of this index and so much more
-pub data Fixing : Type 0 where
-  rebase : (target : ℕ) → Fixing
-  bind : (ordinal addend : ℕ) → Fixing
+-- what the loader makes of a pointer: it is to be this far from the start of the image
+abbrev pub rebase : (target : ℕ) → Fixup
+rebase target = Rebase (record { target = target })
+
+-- or the import of this index, and so much more
+abbrev pub bind : (ordinal addend : ℕ) → Fixup
+bind ordinal addend = Bind (record { ordinal = ordinal; addend = addend })
 
 -- modulo 2^64
 abbrev pub minus : (target base : ℕ) → ℕ
@@ -64,31 +70,27 @@ minus target base = (target + 2 ^ 64 - base) % 2 ^ 64
 -- first bits, and widths in brackets:
 -- dyld_chained_ptr_64_rebase: target 0 (36), high8 36 (8), reserved 44 (7), next 51 (12), bind 63 (1)
 -- dyld_chained_ptr_64_bind: ordinal 0 (24), addend 24 (8), reserved 32 (19), next 51 (12), bind 63 (1)
-unfoldable pub wideFixing : (base n : ℕ) → Fixing
-wideFixing base n =
+unfoldable pub wideFixup : (base n : ℕ) → Fixup
+wideFixup base n =
     cond (eqb (bits 63 1 n) 1)
     (bind (bits 0 24 n) (bits 24 8 n))
     (rebase (bitOr (minus (bits 0 36 n) base) (bits 36 8 n * 2 ^ 56)))
 
 -- dyld_chained_ptr_32_rebase: target 0 (26), next 26 (5), bind 31 (1)
 -- dyld_chained_ptr_32_bind: ordinal 0 (20), addend 20 (6), next 26 (5), bind 31 (1)
-unfoldable pub narrowFixing : (base n : ℕ) → Fixing
-narrowFixing base n =
+unfoldable pub narrowFixup : (base n : ℕ) → Fixup
+narrowFixup base n =
     cond (eqb (bits 31 1 n) 1)
     (bind (bits 0 20 n) (bits 20 6 n))
     (rebase (minus (bits 0 26 n) base))
 
-unfoldable pub fixingOf : (format base n : ℕ) → Fixing
-fixingOf format base n = cond (isNarrow format) (narrowFixing (baseOf format base) n) (wideFixing (baseOf format base) n)
+unfoldable pub fixupOf : (format base n : ℕ) → Fixup
+fixupOf format base n = cond (isNarrow format) (narrowFixup (baseOf format base) n) (wideFixup (baseOf format base) n)
 
 -- how many bytes after a pointer the next one is; 0 ends the chain
 unfoldable pub nextOf : (format n : ℕ) → ℕ
 nextOf format n = stride * cond (isNarrow format) (bits 26 5 n) (bits 51 12 n)
 
--- a pointer with its place in the segment
-pub record Fixed : Type 0 where
-  pub place : ℕ
-  pub fixing : Fixing
-
-abbrev pub fixed : (place : ℕ) → Fixing → Fixed
-fixed place x = record { place = place; fixing = x }
+-- a fixup with its place in the segment
+abbrev pub patch : (place : ℕ) → Fixup → Patch
+patch place x = record { place = place; fixup = x }

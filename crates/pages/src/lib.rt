@@ -27,19 +27,19 @@ pub struct Patch {
     pub fixup: Fixup,
 }
 
-// The segment; the preferred load address; what is due; the indexes of the next page and of the next
-// chain; the offset of the page in the segment, and of the next pointer; and whether the walk has ended by
-// a refusal. What is due: linked and not more, a pointer, then a page; linked and more, a pointer, then the
+// The segment; the preferred load address; the indexes of the next page and of the next chain; the offset
+// of the page in the segment, and of the next pointer; what is due; and whether the walk has ended by a
+// refusal. What is due: linked and not more, a pointer, then a page; linked and more, a pointer, then the
 // next chain of the page's list; more alone, that chain; neither, a page.
 pub struct PageWalk {
     pub segment: Segment,
     pub base: u64,
-    pub linked: bool,
-    pub more: bool,
     pub page: u64,
     pub chain: u64,
     pub origin: u64,
     pub offset: u64,
+    pub linked: bool,
+    pub more: bool,
     pub ended: bool,
 }
 
@@ -49,9 +49,9 @@ pub enum PageStart {
 }
 
 pub enum PageStep {
-    Item(Patch, PageWalk),
+    Item(PageWalk, Patch),
     End(PageWalk),
-    Refused(Refusal, PageWalk),
+    Refused(PageWalk, Refusal),
 }
 
 // Where a search for the next pointer comes to: a pointer that is due, the end, or beyond the starts.
@@ -80,16 +80,16 @@ impl PageWalk {
         if starts_out(segment, s.len()) {
             return PageStart::Refused(Refusal::StateOutOfRange);
         }
-        if pointer::is_format(segment.format) {
+        if pointer::is_format(segment.pointer_format) {
             return PageStart::Begun(PageWalk {
                 segment,
                 base,
-                linked: false,
-                more: false,
                 page: 0,
                 chain: 0,
                 origin: 0,
                 offset: 0,
+                linked: false,
+                more: false,
                 ended: false,
             });
         }
@@ -101,7 +101,7 @@ impl PageWalk {
         ensures { λ r. ⌜ told r ≡ call (now (s .entry)) (now (d .entry)) self ⌝ }
     {
         if self.out_of_range(s.len()) {
-            return PageStep::Refused(Refusal::StateOutOfRange, self);
+            return PageStep::Refused(self, Refusal::StateOutOfRange);
         }
         if self.ended {
             return PageStep::End(self);
@@ -121,7 +121,7 @@ impl PageWalk {
         if starts_out(segment, len) {
             return true;
         }
-        if pointer::is_format(segment.format) {
+        if pointer::is_format(segment.pointer_format) {
             return FARTHEST < self.origin;
         }
         true
@@ -144,11 +144,11 @@ impl PageWalk {
     // Pages are passed until one has a chain.
     fn pages(self, s: &[u8]) -> Sought
         requires { ⌜ self .segment .place + 2 * self .segment .count ≤ length (now s) ⌝ }
-        ensures { λ r. ⌜ r ≡ pages (now (s .entry)) (self .segment .pages - self .page) self ⌝ }
+        ensures { λ r. ⌜ r ≡ pages (now (s .entry)) (self .segment .«page_count» - self .page) self ⌝ }
     {
         let segment = self.segment;
         let mut w = self;
-        while w.page < segment.pages as u64 {
+        while w.page < segment.page_count as u64 {
             let Number::Value(start, _) = start_at(s, segment, w.page) else {
                 return Sought::Beyond;
             };
@@ -188,7 +188,7 @@ impl PageWalk {
     fn pointer(self, w: PageWalk, d: &[u8]) -> PageStep
         ensures { λ r. ⌜ told r ≡ pointer (now (d .entry)) self w ⌝ }
     {
-        let format = w.segment.format;
+        let format = w.segment.pointer_format;
         match read_pointer(d, format, w.offset) {
             Number::Fault => self.refused(Refusal::PointerOutside),
             Number::Value(n, _) => {
@@ -196,7 +196,7 @@ impl PageWalk {
                     place: w.offset,
                     fixup: pointer::meaning(format, w.base, n),
                 };
-                PageStep::Item(patch, w.onward(pointer::next(format, n)))
+                PageStep::Item(w.onward(pointer::next(format, n)), patch)
             }
         }
     }
@@ -220,11 +220,11 @@ impl PageWalk {
 
     // The start of the next page is read.
     fn on_page(self) -> PageWalk
-        requires { ⌜ self .page < self .segment .pages ⌝ }
+        requires { ⌜ self .page < self .segment .«page_count» ⌝ }
         ensures { λ r. ⌜ (r ≡ onPage self) × (r .origin ≤ farthest) ⌝ }
     {
         let segment = self.segment;
-        let origin = page_offset(self.page, segment.pages, segment.size);
+        let origin = page_offset(self.page, segment.page_count, segment.page_size);
         let mut w = self;
         w.page = self.page + 1;
         w.origin = origin;
@@ -259,7 +259,7 @@ impl PageWalk {
     {
         let mut w = self;
         w.ended = true;
-        PageStep::Refused(e, w)
+        PageStep::Refused(w, e)
     }
 }
 

@@ -1,7 +1,6 @@
 // Chained pointers: what a pointer says, by its format.
 ghost use mathlib.Core.Path.{_≡_};
-ghost use Rattle.pages.specs.ChainedPointers.{isFormat, isNarrow, minus, narrowFixing, wideFixing, fixingOf, nextOf};
-ghost use Rattle.pages.specs.Told.{fixupTold};
+ghost use Rattle.pages.specs.ChainedPointers.{isFormat, isNarrow, minus, narrowFixup, wideFixup, fixupOf, nextOf};
 use std::num::wrapping_sub_u64;
 
 // The pointer is to hold this offset from the start of the image, with high8 in its top byte.
@@ -42,7 +41,7 @@ pub(crate) fn is_narrow(format: u16) -> bool
 
 // What the pointer n says.
 pub(crate) fn meaning(format: u16, base: u64, n: u64) -> Fixup
-    ensures { λ r. ⌜ fixupTold r ≡ fixingOf format base n ⌝ }
+    ensures { λ r. ⌜ r ≡ fixupOf format base n ⌝ }
 {
     if is_narrow(format) {
         return narrow(base, n);
@@ -64,7 +63,7 @@ pub(crate) fn next(format: u16, n: u64) -> u64
 }
 
 fn narrow(base: u64, n: u64) -> Fixup
-    ensures { λ r. ⌜ fixupTold r ≡ narrowFixing base n ⌝ }
+    ensures { λ r. ⌜ r ≡ narrowFixup base n ⌝ }
 {
     if n / 0x8000_0000 % 2 == 1 {
         return Fixup::Bind(Bind {
@@ -78,7 +77,7 @@ fn narrow(base: u64, n: u64) -> Fixup
 }
 
 fn wide(base: u64, n: u64) -> Fixup
-    ensures { λ r. ⌜ fixupTold r ≡ wideFixing base n ⌝ }
+    ensures { λ r. ⌜ r ≡ wideFixup base n ⌝ }
 {
     if n / 0x8000_0000_0000_0000 % 2 == 1 {
         return Fixup::Bind(Bind {

@@ -42,7 +42,7 @@ use Rattle.preflight.specs.Faults.{
   Ends,
 }
 use Rattle.preflight.specs.Verdict.{Verdict, pass, fault, verdict, fitSizes, withSizes, preflight}
-use Rattle.preflight.proofs.Loops.{flight, flight-by}
+use Rattle.preflight.proofs.Legs.{flight, flight-by}
 
 -- a test is true of all numbers below n, or there is the first of which it is false
 first : {A : Type 0} (b : ℕ → Bool) (n : ℕ) → (((i : ℕ) → i < n → b i ≡ true) → A) →

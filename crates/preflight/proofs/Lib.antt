@@ -1,6 +1,7 @@
 pub mod Small
 pub mod Verdicts
 pub mod Flights
+pub mod Legs
 pub mod Loops
 pub mod Faults
 pub mod Local

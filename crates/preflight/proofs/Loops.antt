@@ -1,9 +1,8 @@
--- A preflight's code by the tests it makes, for `search`: its start, and one turn of the loop over operations. Assumes nothing.
-use Prim.Native.Nat.{ℕ, suc, _+_, _-_, _^_, _≤_, _<_}
-use mathlib.Core.Path.{_≡_, refl, ap, sym, _∙_}
+-- A preflight's code by the tests it makes, for `search`: its start, one operation, and the loop over operations. Assumes nothing.
+use Prim.Native.Nat.{ℕ, _+_, _-_, _^_, _≤_, _<_}
+use mathlib.Core.Path.{_≡_, refl, ap, sym, _∙_, subst}
 use mathlib.Core.Bool.{Bool, true, false, not, cond}
 use mathlib.Core.List.{List}
-use native.Mathlib.Numerals.{add-one}
 use native.Mathlib.Omega.{arith}
 use borrow.Author.Tests.{not-true, not-false}
 use lib.ListN.{length}
@@ -12,37 +11,52 @@ use Rattle.cursor.specs.Motion.{turnOf}
 use Rattle.cursor.specs.declared.Lack.{Lack}
 use Rattle.cursor.specs.declared.Motion.{Motion}
 use Rattle.cursor.specs.declared.Start.the-variants as start
-use Rattle.listing.proofs.Streams.{ends-within, fewer-left, stream-by}
+use Rattle.listing.proofs.Streams.{ends-within}
 use Rattle.listing.specs.Call.{State, beginFrom, begin}
-use Rattle.listing.specs.Listing.{listed, listingOf, listing}
+use Rattle.listing.specs.Listing.{listing}
 use Rattle.listing.specs.Machine.{Effect, _and_, Machine}
-use Rattle.listing.specs.Stream.{Stream, before, streamAt}
 use Rattle.operations.specs.Table.{Parsed, operation, operationAt}
 use Rattle.refusal.specs.Numbers.{numberOf}
 use Rattle.refusal.specs.declared.Refusal.the-variants.{PointerSize, UnfitSizes}
 use Rattle.runs.specs.Runs.{Begin, begun, notBegun}
 use Rattle.preflight.specs.Flown.{flownOf}
+use Rattle.preflight.specs.Leg.{Flight, flightAt, Leg, on, said, spotOf, legBy, legOver, legOf, legAt}
 use Rattle.preflight.specs.Verdict.{Verdict, fault, verdict, fitSizes, withSizes, preflight}
 use Rattle.preflight.specs.declared.flight.Flown.{Flown}
-use Rattle.preflight.specs.declared.flight.Flown.the-variants.{On}
-use Rattle.preflight.proofs.Verdicts.{Placed, spotAt, decided, verdict-turn}
+use Rattle.preflight.proofs.Legs.{flight, after, leg-verdict, Beyond, goes-beyond}
+use Rattle.preflight.proofs.Verdicts.{Placed}
+
+-- ---- one operation
+
+module _ (M : Machine) (size : ℕ) (sizes : List ℕ) (f : Flight (M .Reg)) where
+  -- by what the motion comes to
+  pub over-as : (op : M .Op) (next : ℕ) {h : M .Reg} {m : Motion} → h and m ≡ M .effect size op (f .registers) →
+      {lack : Lack} → lack ≡ M .lack h → {d c : Flown} →
+      d ≡ flownOf (record { size = size; lack = lack; segment = spotOf M size h .segment; kind = spotOf M size h .kind }) (f .offset) sizes (turnOf size (f .offset) m) →
+      d ≡ c → {y : Leg (M .Reg)} → y ≡ legBy M size sizes f next (h and m) c → y ≡ legOver M size sizes f op next
+  unfolding legOver
+  over-as op next {h} {m} e l q u t =
+      t
+      ∙ ap (legBy M size sizes f next (h and m)) (sym u ∙ q)
+      ∙ ap (λ (i : Lack). legBy M size sizes f next (h and m) (flownOf (record { size = size; lack = i; segment = spotOf M size h .segment; kind = spotOf M size h .kind }) (f .offset) sizes (turnOf size (f .offset) m))) l
+      ∙ ap (λ (did : Effect (M .Reg)). legBy M size sizes f next did (flownOf (spotOf M size (did .registers)) (f .offset) sizes (turnOf size (f .offset) (did .motion)))) e
+
+  -- by what stands at the place
+  pub leg-as : (s : List ℕ) {x q : Parsed (M .Op)} → x ≡ operationAt (M .table) s (f .at) → x ≡ q →
+      {y : Leg (M .Reg)} → y ≡ legOf M size sizes f q → y ≡ legAt M size sizes s f
+  leg-as s p u t = t ∙ ap (legOf M size sizes f) (sym u ∙ p)
+
+pub counts : (M : Machine) (s : List ℕ) (at : ℕ) {k : ℕ} {x : Parsed (M .Op)} → x ≡ operationAt (M .table) s at →
+    {op : M .Op} {next : ℕ} → x ≡ operation op next → k ≤ at → length s < 2 ^ 64 → k + 1 < 2 ^ 64
+counts M s at p q h l = let w = ends-within M s at (sym p ∙ q) in omega (arith, w .beyond, w .inside)
 
 -- ---- the loop
 
 module _ (M : Machine) (size : ℕ) (sizes s : List ℕ) where
-  -- the verdict on the operations from a place on, with k read before them
-  abbrev pub flight : (at k : ℕ) → M .Reg → (o : ℕ) → Verdict
-  flight at k g o = verdict M size sizes (listingOf M size (streamAt M s at) k g o)
-
-  -- by what stands there
-  pub flight-by : (at k : ℕ) (g : M .Reg) (o : ℕ) {q : Parsed (M .Op)} → operationAt (M .table) s at ≡ q →
-      flight at k g o ≡ verdict M size sizes (listingOf M size (before M at (streamAt M s) q) k g o)
-  flight-by at k g o e = ap (λ (xs : Stream (M .Op)). verdict M size sizes (listingOf M size xs k g o)) (stream-by M s at e)
-
   -- the invariant: the verdict is the one on the operations from here on
-  pub record Flying (v : Verdict) (at k : ℕ) (g : M .Reg) (o : ℕ) : Type 0 where
-    pub same : v ≡ flight at k g o
-    pub few : k ≤ at
+  pub record Flying (v : Verdict) (f : Flight (M .Reg)) : Type 0 where
+    pub same : v ≡ flight M size sizes s (f .at) (f .operations) (f .registers) (f .offset)
+    pub few : f .operations ≤ f .at
     pub fit : fitSizes sizes ≡ true
 
   -- by the test of the sizes
@@ -51,46 +65,29 @@ module _ (M : Machine) (size : ℕ) (sizes s : List ℕ) where
     unfolding withSizes
     not-fit f h = h ∙ sym (rw (sym e ∙ not-true b f))
 
-    pub takes-off : not b ≡ false → Flying (withSizes M g size sizes s) 0 0 g 0
+    pub takes-off : not b ≡ false → Flying (withSizes M g size sizes s) (flightAt 0 0 0 g)
     unfolding withSizes listing
     takes-off f = let fit = sym e ∙ not-false b f in record { same = rw fit; few = omega arith; fit = fit }
 
-module _ {M : Machine} (P : Placed M) {size : ℕ} {sizes s : List ℕ} {v : Verdict} {at k : ℕ} {g : M .Reg} {o : ℕ} (r : Flying M size sizes s v at k g o)
-    {x : Parsed (M .Op)} (p : x ≡ operationAt (M .table) s at) where
-  -- by what is parsed
-  pub parsed-as : {q : Parsed (M .Op)} {y : Verdict} → x ≡ q → y ≡ verdict M size sizes (listingOf M size (before M at (streamAt M s) q) k g o) → y ≡ v
-  parsed-as f h = h ∙ sym (r .same ∙ flight-by M size sizes s at k g o (sym p ∙ f))
+-- by what the operation comes to
+module _ (M : Machine) (P : Placed M) {size : ℕ} {sizes s : List ℕ} {v : Verdict} {at k o : ℕ} {g : M .Reg} (r : Flying M size sizes s v (flightAt at k o g))
+    {x : Leg (M .Reg)} (p : x ≡ legAt M size sizes s (flightAt at k o g)) where
+  comes-to : {l : Leg (M .Reg)} → x ≡ l → v ≡ after M size sizes s (flightAt at k o g) l
+  comes-to e =
+      r .same ∙ leg-verdict M size sizes s (flightAt at k o g) P (r .fit) ∙ ap (after M size sizes s (flightAt at k o g)) (sym p ∙ e)
 
-  module _ {op : M .Op} {next : ℕ} (q : x ≡ operation op next) where
+  pub has-said : {y : Verdict} → x ≡ said y → y ≡ v
+  has-said e = sym (comes-to e)
+
+  module _ {next n to places : ℕ} {h : M .Reg} (e : x ≡ on (flightAt next n to h) places) where
+    beyond : Beyond M size sizes s (flightAt at k o g) (flightAt next n to h)
+    beyond = goes-beyond M size sizes s (flightAt at k o g) (sym p ∙ e)
+
     pub further : length s - next < length s - at
-    further = fewer-left M s at (sym p ∙ q)
+    further = omega (arith, beyond .beyond, beyond .inside)
 
-    pub counts : length s < 2 ^ 64 → k + 1 < 2 ^ 64
-    counts h = let w = ends-within M s at (sym p ∙ q) in omega (arith, w .beyond, w .inside, r .few)
-
-    module _ {h : M .Reg} {m : Motion} (f : h and m ≡ M .effect size op g) {lack : Lack} (l : lack ≡ M .lack h) {d : Flown}
-        (e : d ≡ flownOf (spotAt P size lack h) o sizes (turnOf size o m)) where
-      flies : v ≡ decided at k (flight M size sizes s next (suc k) h) d
-      unfolding listingOf before
-      flies =
-          sym (parsed-as q refl)
-          ∙ ap (λ (did : Effect (M .Reg)). verdict M size sizes (listed M at k (did .registers) o (listingOf M size (streamAt M s next) (suc k)) (turnOf size o (did .motion)))) (sym f)
-          ∙ verdict-turn M P size sizes h (r .fit) at k (listingOf M size (streamAt M s next) (suc k)) o (turnOf size o m)
-          ∙ ap (λ (i : Lack). decided at k (flight M size sizes s next (suc k) h) (flownOf (spotAt P size i h) o sizes (turnOf size o m))) (sym l)
-          ∙ ap (decided at k (flight M size sizes s next (suc k) h)) (sym e)
-
-      -- by what the operation comes to
-      pub flown-as : {c : Flown} {y : Verdict} → d ≡ c → y ≡ decided at k (flight M size sizes s next (suc k) h) c → y ≡ v
-      flown-as u t = t ∙ sym (flies ∙ ap (decided at k (flight M size sizes s next (suc k) h)) u)
-
-      pub flies-on : {to : ℕ} → d ≡ On to → Flying M size sizes s v next (k + 1) h to
-      flies-on {to} u =
-          let within = ends-within M s at (sym p ∙ q) in
-          record {
-            same = sym (flown-as u refl) ∙ ap (λ (n : ℕ). flight M size sizes s next n h to) (sym (add-one k));
-            few = omega (arith, within .beyond, r .few);
-            fit = r .fit;
-          }
+    pub flies-on : Flying M size sizes s v (flightAt next n to h)
+    flies-on = record { same = comes-to e; few = omega (arith, beyond .beyond, beyond .counted, r .few); fit = r .fit }
 
 -- ---- the start, by what the walk's start is
 

@@ -5,7 +5,7 @@ use Rattle.rebase.specs.Rebases.{rebases}
 use Rattle.preflight.proofs.Verdicts.{Placed}
 
 abbrev pub rebase-placed : Placed rebases
-rebase-placed = record { segment = λ g. g .segment; kind = λ g. g .kind; same = λ g offset. refl }
+rebase-placed = λ g offset. refl
 
 abbrev pub bind-placed : Placed binds
-bind-placed = record { segment = λ g. g .segment; kind = λ g. g .kind; same = λ g offset. refl }
+bind-placed = λ g offset. refl

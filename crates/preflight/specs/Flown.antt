@@ -1,4 +1,4 @@
--- What one operation comes to in a preflight. Only private functions promise this; that it is the verdict on what the operation lists is
+-- What a motion comes to in a preflight. Only private functions promise this; that it is the verdict on what the operation lists is
 -- `verdict-turn` (proofs/Verdicts.antt). A spot is what is known of places if some are due: the pointer size, what they lack, their
 -- segment and their type.
 use Prim.Native.Nat.{ℕ}

@@ -1,7 +1,8 @@
-// What one operation comes to in a preflight, whatever the kind of stream.
+// What a motion comes to in a preflight, whatever the kind of stream.
 ghost use mathlib.Core.Path.{_≡_};
 ghost use Rattle.cursor.specs.Motion.{turnOf};
 ghost use Rattle.preflight.specs.Flown.{flownPlaces, flownDue, flownOf};
+ghost use Rattle.preflight.specs.Leg.{placesOf};
 ghost use Rattle.preflight.specs.Verdict.{widthOf};
 use cursor::Lack;
 use cursor::Motion;
@@ -70,5 +71,20 @@ impl Spot {
         ensures { λ r. ⌜ r ≡ widthOf (self .size) (self .kind) ⌝ }
     {
         self.size as u64
+    }
+}
+
+// How many places a motion yields.
+pub(crate) fn places(motion: Motion) -> u64
+    ensures { λ r. ⌜ r ≡ placesOf motion ⌝ }
+{
+    match motion {
+        Motion::Repeats(count, _) => count,
+        Motion::Stays => 0,
+        Motion::Adds(_) => 0,
+        Motion::Seeks(_) => 0,
+        Motion::Restarts => 0,
+        Motion::Ends => 0,
+        Motion::Refuses(_) => 0,
     }
 }

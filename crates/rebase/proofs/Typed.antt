@@ -56,8 +56,8 @@ module _ (size : ℕ) (g : Registers) where
   counted (DoRebaseTimesSkipping count skip) t = t
 
 pub record TypedRebase (x : Rebase) : Type 0 where
-  pub segment : x .segment < 2 ^ 8
   pub offset : x .offset < 2 ^ 64
+  pub segment : x .segment < 2 ^ 8
   pub kind : x .kind < 2 ^ 8
 
 -- every call on a state whose fields are such as their types have hands such a state back, and such items
@@ -74,4 +74,4 @@ module _ (s : List ℕ) (short : length s < 2 ^ 64) (w : State Registers) (t : t
   pub typed-item : {x : Rebase} {v : State Registers} → call rebases s w ≡ item x v → TypedRebase x
   typed-item e =
       let m = typed.typed-item rebases s short TypedRegisters keeps counts w t e in
-      subst TypedRebase (sym (m .is)) (record { segment = m .typed .segment; offset = m .below; kind = m .typed .kind })
+      subst TypedRebase (sym (m .is)) (record { offset = m .below; segment = m .typed .segment; kind = m .typed .kind })

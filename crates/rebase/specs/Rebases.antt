@@ -25,13 +25,13 @@ use Rattle.refusal.specs.declared.Refusal.the-variants.{NoSegment, NoType}
 
 -- at a start
 abbrev pub unset : Registers
-unset = record { segmented = false; typed = false; segment = 0; kind = 0 }
+unset = record { segment = 0; kind = 0; segmented = false; typed = false }
 
 abbrev pub withType : ℕ → Registers → Registers
-withType kind g = record { segmented = g .segmented; typed = true; segment = g .segment; kind = kind }
+withType kind g = record { segment = g .segment; kind = kind; segmented = g .segmented; typed = true }
 
 abbrev pub withSegment : ℕ → Registers → Registers
-withSegment index g = record { segmented = true; typed = g .typed; segment = index; kind = g .kind }
+withSegment index g = record { segment = index; kind = g .kind; segmented = true; typed = g .typed }
 
 -- ---- what an operation does
 
@@ -51,7 +51,7 @@ abbrev pub lackOf : Registers → Lack
 lackOf g = cond (g .segmented) (cond (g .typed) Nothing (Lacks NoType)) (Lacks NoSegment)
 
 abbrev pub itemOf : Registers → (offset : ℕ) → Rebase
-itemOf g offset = record { segment = g .segment; offset = offset; kind = g .kind }
+itemOf g offset = record { offset = offset; segment = g .segment; kind = g .kind }
 
 abbrev pub placeOf : Rebase → Place
 placeOf x = record { segment = x .segment; offset = x .offset; kind = x .kind }

@@ -16,20 +16,19 @@ use operations::rebase_operation::RebaseOperation;
 use operations::rebase_operation::RebaseParse;
 use refusal::Refusal;
 
-// A place that the loader rebases: its segment, its offset there, and its type.
+// A place that the loader rebases: its offset in a segment, that segment, and its type.
 pub struct Rebase {
-    pub segment: u8,
     pub offset: u64,
+    pub segment: u8,
     pub kind: u8,
 }
 
-// What operations have set, but for the offset: whether a segment is set and whether a type is, and
-// which.
+// What operations have set, but for the offset: a segment and a type, and whether each is set.
 pub struct Registers {
-    pub segmented: bool,
-    pub typed: bool,
     pub segment: u8,
     pub kind: u8,
+    pub segmented: bool,
+    pub typed: bool,
 }
 
 pub struct RebaseWalk {
@@ -43,15 +42,15 @@ pub enum RebaseStart {
 }
 
 pub enum RebaseStep {
-    Item(Rebase, RebaseWalk),
+    Item(RebaseWalk, Rebase),
     End(RebaseWalk),
-    Refused(Refusal, RebaseWalk),
+    Refused(RebaseWalk, Refusal),
 }
 
-// What an operation does: the registers from now on, and what becomes of the place.
+// What an operation does: what becomes of the place, and the registers from now on.
 pub struct RebaseEffect {
-    pub registers: Registers,
     pub motion: Motion,
+    pub registers: Registers,
 }
 
 impl Registers {
@@ -90,8 +89,8 @@ impl Registers {
         ensures { λ r. ⌜ effectTold r ≡ (self and motion) ⌝ }
     {
         RebaseEffect {
-            registers: self,
             motion,
+            registers: self,
         }
     }
 
@@ -115,8 +114,8 @@ impl Registers {
         ensures { λ r. ⌜ r ≡ itemOf self offset ⌝ }
     {
         Rebase {
-            segment: self.segment,
             offset,
+            segment: self.segment,
             kind: self.kind,
         }
     }
@@ -130,10 +129,10 @@ impl RebaseWalk {
         match Cursor::start(size) {
             Start::Begun(cursor) => {
                 let registers = Registers {
-                    segmented: false,
-                    typed: false,
                     segment: 0,
                     kind: 0,
+                    segmented: false,
+                    typed: false,
                 };
                 RebaseStart::Begun(RebaseWalk { cursor, registers })
             }
@@ -147,7 +146,7 @@ impl RebaseWalk {
     {
         let given = self.cursor;
         match given.standing(s.len()) {
-            Standing::OutOfRange => RebaseStep::Refused(Refusal::StateOutOfRange, self),
+            Standing::OutOfRange => RebaseStep::Refused(self, Refusal::StateOutOfRange),
             Standing::Ended => RebaseStep::End(self),
             Standing::Due(cursor) => {
                 let registers = self.registers;
@@ -195,7 +194,7 @@ impl RebaseWalk {
     {
         let g = behind.registers;
         match g.lack() {
-            Lack::Nothing => RebaseStep::Item(g.item(offset), behind),
+            Lack::Nothing => RebaseStep::Item(behind, g.item(offset)),
             Lack::Lacks(e) => self.refused(e),
         }
     }
@@ -205,6 +204,6 @@ impl RebaseWalk {
         ensures { λ r. ⌜ told r ≡ refusal (view self) e ⌝ }
     {
         self.cursor.ended = true;
-        RebaseStep::Refused(e, self)
+        RebaseStep::Refused(self, e)
     }
 }

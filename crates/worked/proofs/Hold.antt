@@ -7,7 +7,7 @@ use Rattle.listing.specs.Stream.{before, streamIn, streamAt}
 use Rattle.numbers.specs.Digits.{fromDigits}
 use Rattle.numbers.specs.Leb128.{ulebAt, slebAt}
 use Rattle.numbers.specs.Parts.{partOf}
-use Rattle.numbers.specs.Runs.{runTo}
+use Rattle.numbers.specs.Spans.{spanTo}
 use Rattle.numbers.specs.Strings.{stringAt}
 use Rattle.numbers.specs.Then.{thenUnsigned, thenSigned, thenText}
 use Rattle.operations.specs.Table.{lookedUp, operationAt}
@@ -16,5 +16,5 @@ use Rattle.preflight.specs.Verdict.{inside, verdict, withSizes, preflight}
 use Rattle.worked.specs.Examples.{allNamed, examples, defined, documented}
 
 pub examples-hold : map defined examples ≡ map documented examples
-unfolding ulebAt slebAt stringAt runTo fromDigits partOf thenUnsigned thenSigned thenText lookedUp operationAt before streamIn streamAt placeAt turnOf places repeated listed listingOf listing heard allNamed fits inside verdict withSizes preflight
+unfolding ulebAt slebAt stringAt spanTo fromDigits partOf thenUnsigned thenSigned thenText lookedUp operationAt before streamIn streamAt placeAt turnOf places repeated listed listingOf listing heard allNamed fits inside verdict withSizes preflight
 examples-hold = refl

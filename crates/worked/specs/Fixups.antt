@@ -6,8 +6,9 @@ use lib.IntN.{pos, negℤ}
 use Rattle.chains.specs.Listing.{Entry, segment, refusal}
 use Rattle.chains.specs.declared.Segment.{Segment}
 use Rattle.imports.specs.declared.Import.{Import}
-use Rattle.pages.specs.ChainedPointers.{rebase, bind, Fixed, fixed}
+use Rattle.pages.specs.ChainedPointers.{rebase, bind, patch}
 use Rattle.pages.specs.Listing as fixups
+use Rattle.pages.specs.declared.Patch.{Patch}
 use Rattle.runs.specs.Runs.{Run, stops, fails, gives}
 
 -- ---- the fixups of a segment
@@ -22,24 +23,24 @@ pub record Sample : Type 0 where
   pub count : ℕ
   pub format : ℕ
   pub base : ℕ
-  pub says : Run fixups.Entry
+  pub says : Run fixups.Paged
 
 abbrev pub recordOf : Sample → Segment
 recordOf x =
     record {
       index = 0;
-      size = x .size;
-      format = x .format;
-      offset = 0;
-      limit = 0;
-      pages = x .pages;
+      «page_size» = x .size;
+      «pointer_format» = x .format;
+      «segment_offset» = 0;
+      «max_valid_pointer» = 0;
+      «page_count» = x .pages;
       place = 0;
       count = x .count;
     }
 
 -- reached from the page of an index, which is at an offset in the segment
-abbrev pub of : (index origin : ℕ) → Fixed → fixups.Entry
-of index origin x = fixups.entry (record { index = index; origin = origin }) x
+abbrev pub of : (index origin : ℕ) → Patch → fixups.Paged
+of index origin x = fixups.paged (record { index = index; origin = origin }) x
 
 -- a list of two chains, at 0 and at 4; each has its second pointer eight bytes behind the first
 abbrev pub interleaved : Sample
@@ -54,10 +55,10 @@ interleaved =
       format = 3;
       base = 0x10;
       says =
-          gives (of 0 0 (fixed 0 (rebase 0)))
-          (gives (of 0 0 (fixed 8 (rebase 0x10)))
-          (gives (of 0 0 (fixed 4 (bind 1 3)))
-          (gives (of 0 0 (fixed 12 (bind 0xfffff 0x3f)))
+          gives (of 0 0 (patch 0 (rebase 0)))
+          (gives (of 0 0 (patch 8 (rebase 0x10)))
+          (gives (of 0 0 (patch 4 (bind 1 3)))
+          (gives (of 0 0 (patch 12 (bind 0xfffff 0x3f)))
           stops)));
     }
 
@@ -100,7 +101,7 @@ ownList =
       count = 1;
       format = 3;
       base = 0;
-      says = gives (of 0 0 (fixed 0 (rebase 0x10))) stops;
+      says = gives (of 0 0 (patch 0 (rebase 0x10))) stops;
     }
 
 -- a pointer of eight bytes in seven
@@ -128,7 +129,7 @@ high format base target =
       count = 1;
       format = format;
       base = base;
-      says = gives (of 0 0 (fixed 0 (rebase target))) stops;
+      says = gives (of 0 0 (patch 0 (rebase target))) stops;
     }
 
 -- two pages of eight bytes, of which the second has no chain: that of the first runs on into it, from 4 to 8
@@ -142,7 +143,7 @@ runsOn =
       count = 2;
       format = 3;
       base = 0;
-      says = gives (of 0 0 (fixed 4 (rebase 0x10))) (gives (of 0 0 (fixed 8 (rebase 0x20))) stops);
+      says = gives (of 0 0 (patch 4 (rebase 0x10))) (gives (of 0 0 (patch 8 (rebase 0x20))) stops);
     }
 
 -- a chain of its own for each of the two: a caller hears the same
@@ -156,7 +157,7 @@ eachItsOwn =
       count = 2;
       format = 3;
       base = 0;
-      says = gives (of 0 0 (fixed 4 (rebase 0x10))) (gives (of 1 8 (fixed 8 (rebase 0x20))) stops);
+      says = gives (of 0 0 (patch 4 (rebase 0x10))) (gives (of 1 8 (patch 8 (rebase 0x20))) stops);
     }
 
 -- the base is the target, the target is below it, and the base is none
@@ -188,7 +189,18 @@ segmentBytes =
 abbrev pub segmentsSay : Run (Entry Segment)
 segmentsSay =
     gives (refusal 9)
-    (gives (segment (record { index = 2; size = 0x1000; format = 6; offset = 0x4000; limit = 9; pages = 1; place = 88; count = 1 }))
+    (gives
+    (segment
+    (record {
+      index = 2;
+      «page_size» = 0x1000;
+      «pointer_format» = 6;
+      «segment_offset» = 0x4000;
+      «max_valid_pointer» = 9;
+      «page_count» = 1;
+      place = 88;
+      count = 1;
+    }))
     stops)
 
 -- ---- imports

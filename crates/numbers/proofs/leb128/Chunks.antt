@@ -11,7 +11,7 @@ use lib.ListN.{length, length-map}
 use Rattle.numbers.specs.Digits.{fromDigits}
 use Rattle.numbers.specs.Leb128.{chunks, unsigned}
 use Rattle.numbers.proofs.Digits.{digits-snoc, digit-below}
-use Rattle.numbers.proofs.Runs.{length-snoc}
+use Rattle.numbers.proofs.Spans.{length-snoc}
 
 chunks-append : (ps qs : List ℕ) → chunks (ps ++ qs) ≡ chunks ps ++ chunks qs
 chunks-append [] qs = refl

@@ -10,30 +10,30 @@ use mir.Syntax.{w64}
 use mir.Val.{Fits}
 use Rattle.numbers.specs.Gathered.{gathered, gatheredAt}
 use Rattle.numbers.specs.Leb128.{isLast, tenth, unsigned}
-use Rattle.numbers.specs.Runs.{Run, run, unended, runTo}
+use Rattle.numbers.specs.Spans.{Span, span, unended, spanTo}
 use Rattle.numbers.specs.declared.leb128.Gathered.the-variants.{Few, Ten, Cut}
-use Rattle.numbers.proofs.Runs.{Passed, behind, length-snoc, none-passed, one-passed, runs-out, run-ends}
+use Rattle.numbers.proofs.Spans.{Passed, behind, length-snoc, none-passed, one-passed, runs-out, span-ends}
 use Rattle.numbers.proofs.leb128.Chunks.{Worth, none-worth, one-more, sum-below, scale-small, nine-passed, eight-passed}
 
--- ---- what is gathered of a run, by its length
+-- ---- what is gathered of a span, by its length
 
 module _ (from : ℕ) (ps : List ℕ) (b : ℕ) where
-  pub gathered-few : length ps ≤ 8 → gathered from (run (ps ++ (b ∷ []))) ≡ Few (unsigned ps) (128 ^ length ps) b (from + (length ps + 1))
+  pub gathered-few : length ps ≤ 8 → gathered from (span (ps ++ (b ∷ []))) ≡ Few (unsigned ps) (128 ^ length ps) b (from + (length ps + 1))
   gathered-few h =
       let e : length ps + 1 - 1 ≡ length ps = omega arith in
       rw (length-snoc ps b, lt-ltb (length ps + 1) 10 (omega arith), e, take-append-seam ps (b ∷ []), getD-append-seam ps b [] 0)
 
-  pub gathered-ten : length ps ≡ 9 → b < 128 → gathered from (run (ps ++ (b ∷ []))) ≡ Ten (unsigned ps) b (from + (length ps + 1))
+  pub gathered-ten : length ps ≡ 9 → b < 128 → gathered from (span (ps ++ (b ∷ []))) ≡ Ten (unsigned ps) b (from + (length ps + 1))
   gathered-ten h l =
       let e : 10 ≡ length ps + 1 = omega arith in
       rw (length-snoc ps b, le-ltb (length ps + 1) 10 (omega arith), getD-at ps b [] 0 9 h, lt-ltb b 128 l, take-at ps (b ∷ []) 9 h)
       (ap (λ (n : ℕ). Ten (unsigned ps) b (from + n)) e)
 
-pub gathered-long : (from : ℕ) (bs : List ℕ) → 10 ≤ length bs → 128 ≤ tenth bs → gathered from (run bs) ≡ Cut
+pub gathered-long : (from : ℕ) (bs : List ℕ) → 10 ≤ length bs → 128 ≤ tenth bs → gathered from (span bs) ≡ Cut
 gathered-long from bs h l = rw (le-ltb (length bs) 10 h, le-ltb (tenth bs) 128 l)
 
-gathered-past : (from : ℕ) (ps : List ℕ) (b : ℕ) → length ps ≡ 9 → 128 ≤ b → (x : Run) → gathered from (behind (ps ++ (b ∷ [])) x) ≡ Cut
-gathered-past from ps b h l (run bs) =
+gathered-past : (from : ℕ) (ps : List ℕ) (b : ℕ) → length ps ≡ 9 → 128 ≤ b → (x : Span) → gathered from (behind (ps ++ (b ∷ [])) x) ≡ Cut
+gathered-past from ps b h l (span bs) =
     let n = length-append (ps ++ (b ∷ [])) bs in
     let t : tenth (ps ++ (b ∷ []) ++ bs) ≡ b = ap tenth (append-snoc ps b bs) ∙ getD-at ps b bs 0 9 h in
     gathered-long from (ps ++ (b ∷ []) ++ bs) (omega (arith, n, length-snoc ps b)) (omega (arith, t))
@@ -58,9 +58,9 @@ module _ {s : List ℕ} {from at low scale : ℕ} (i : Held s from at low scale)
   next = omega (arith, i .bytes .place)
 
   module _ (h : at < length s) where
-    ends : getD s at 0 < 128 → gatheredAt s from ≡ gathered from (run (i .bytes .passed ++ (getD s at 0 ∷ [])))
+    ends : getD s at 0 < 128 → gatheredAt s from ≡ gathered from (span (i .bytes .passed ++ (getD s at 0 ∷ [])))
     unfolding gatheredAt
-    ends b = ap (gathered from) (run-ends (i .bytes) h (lt-ltb (getD s at 0) 128 b))
+    ends b = ap (gathered from) (span-ends (i .bytes) h (lt-ltb (getD s at 0) 128 b))
 
     abbrev passes : 128 ≤ getD s at 0 → Passed isLast s from (at + 1)
     passes b = one-passed (i .bytes) h (le-ltb (getD s at 0) 128 b)
@@ -77,7 +77,7 @@ module _ {s : List ℕ} {from at low scale : ℕ} (i : Held s from at low scale)
       pub is-cut : 128 ≤ getD s at 0 → Cut ≡ gatheredAt s from
       unfolding gatheredAt
       is-cut b =
-          sym (ap (gathered from) (passes b .rest) ∙ gathered-past from (i .bytes .passed) (getD s at 0) nine b (runTo isLast (drop (at + 1) s)))
+          sym (ap (gathered from) (passes b .rest) ∙ gathered-past from (i .bytes .passed) (getD s at 0) nine b (spanTo isLast (drop (at + 1) s)))
 
     module _ (t : scale ≡ 2 ^ 63 → ⊥) where
       eight : length (i .bytes .passed) ≤ 8

@@ -13,7 +13,7 @@ use mir.Val.{Fits}
 use mir.Facts.{toZ-ofZ}
 use Rattle.numbers.specs.Leb128.{tenth, bytesAt, signExtended, slebOf, slebAt}
 use Rattle.numbers.specs.Gathered.{gatheredAt}
-use Rattle.numbers.specs.Runs.{Run, run, unended}
+use Rattle.numbers.specs.Spans.{Span, span, unended}
 use Rattle.numbers.specs.declared.leb128.Gathered.{Gathered}
 use Rattle.numbers.specs.declared.leb128.Gathered.the-variants.{Few, Ten, Cut}
 use Rattle.numbers.specs.declared.leb128.Signed.the-variants.{Value, Fault}
@@ -53,8 +53,8 @@ module _ {s : List ℕ} {at low scale last next : ℕ} (v : Seen s at low scale 
 
 -- ---- what the code answers
 
-no-sleb : (at : ℕ) (x : Run) → IsCut x → Fault ≡ slebOf at x
-no-sleb at (run bs) h =
+no-sleb : (at : ℕ) (x : Span) → IsCut x → Fault ≡ slebOf at x
+no-sleb at (span bs) h =
     sym (rw (ne-eqb (tenth bs) 0x00 (λ e. omega arith), ne-eqb (tenth bs) 0x7f (λ e. omega arith)))
 no-sleb at unended h = refl
 

@@ -8,15 +8,15 @@ use mir.Syntax.{w64}
 use mir.Val.{Fits}
 use Rattle.numbers.specs.Leb128.{tenth, bytesAt, ulebOf, ulebAt}
 use Rattle.numbers.specs.Gathered.{gatheredAt}
-use Rattle.numbers.specs.Runs.{Run, run, unended}
+use Rattle.numbers.specs.Spans.{Span, span, unended}
 use Rattle.numbers.specs.declared.leb128.Gathered.{Gathered}
 use Rattle.numbers.specs.declared.leb128.Gathered.the-variants.{Few, Ten, Cut}
 use Rattle.numbers.specs.declared.leb128.Unsigned.the-variants.{Value, Fault}
 use Rattle.numbers.proofs.leb128.Chunks.{sum-below}
 use Rattle.numbers.proofs.leb128.Views.{SeenFew, SeenTen, IsCut, value-is, next-is, no-tenth, tenth-is, seen, few-sum, few-product}
 
-no-uleb : (at : ℕ) (x : Run) → IsCut x → Fault ≡ ulebOf at x
-no-uleb at (run bs) h = sym (rw (le-ltb (tenth bs) 2 (omega arith)))
+no-uleb : (at : ℕ) (x : Span) → IsCut x → Fault ≡ ulebOf at x
+no-uleb at (span bs) h = sym (rw (le-ltb (tenth bs) 2 (omega arith)))
 no-uleb at unended h = refl
 
 module _ (s : List ℕ) (at : ℕ) {r : Gathered} (g : r ≡ gatheredAt s at) where

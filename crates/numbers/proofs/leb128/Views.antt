@@ -11,16 +11,16 @@ use mir.Syntax.{w64}
 use mir.Val.{Fits}
 use Rattle.numbers.specs.Gathered.{gathered, gatheredAt}
 use Rattle.numbers.specs.Leb128.{isLast, bytesAt, tenth, unsigned}
-use Rattle.numbers.specs.Runs.{Run, run, unended}
+use Rattle.numbers.specs.Spans.{Span, span, unended}
 use Rattle.numbers.specs.declared.leb128.Gathered.{Gathered}
 use Rattle.numbers.specs.declared.leb128.Gathered.the-variants.{Few, Ten, Cut}
-use Rattle.numbers.proofs.Runs.{IsRun, is-run, length-snoc}
+use Rattle.numbers.proofs.Spans.{IsSpan, is-span, length-snoc}
 use Rattle.numbers.proofs.leb128.Chunks.{Worth, one-more, sum-below, scale-small}
 use Rattle.numbers.proofs.leb128.Gathering.{gathered-few, gathered-ten, gathered-long}
 
 pub record Seen (s : List ℕ) (at low scale last next : ℕ) : Type 0 where
   pub passed : List ℕ
-  pub is : bytesAt s at ≡ run (passed ++ (last ∷ []))
+  pub is : bytesAt s at ≡ span (passed ++ (last ∷ []))
   pub worth : Worth passed low scale
   pub small : last < 128
   pub place : next ≡ at + (length passed + 1)
@@ -35,8 +35,8 @@ pub record SeenTen (s : List ℕ) (at low last next : ℕ) : Type 0 where
   pub ten : length (seen .passed) ≡ 9
 
 -- bytes that never end, or whose tenth does not end them
-abbrev pub IsCut : Run → Type 0
-IsCut (run bs) = 128 ≤ tenth bs
+abbrev pub IsCut : Span → Type 0
+IsCut (span bs) = 128 ≤ tenth bs
 IsCut unended = Unit {0}
 
 -- what each of the three answers says of the bytes
@@ -45,44 +45,44 @@ View s at (Few low scale last next) = SeenFew s at low scale last next
 View s at (Ten low last next) = SeenTen s at low last next
 View s at Cut = IsCut (bytesAt s at)
 
-module _ (s : List ℕ) (at : ℕ) {bs : List ℕ} (e : bytesAt s at ≡ run bs) (i : IsRun isLast (drop at s) bs) where
+module _ (s : List ℕ) (at : ℕ) {bs : List ℕ} (e : bytesAt s at ≡ span bs) (i : IsSpan isLast (drop at s) bs) where
   abbrev whole : (scale : ℕ) → scale ≡ 128 ^ length (i .passed) → Seen s at (unsigned (i .passed)) scale (i .last) (at + (length (i .passed) + 1))
   whole scale p =
       record {
         passed = i .passed;
-        is = e ∙ ap run (i .split);
+        is = e ∙ ap span (i .split);
         worth = record { worth = refl; counts = p };
-        small = ltb-true (i .last) 128 (i .stops);
+        small = ltb-true (i .last) 128 (i .closes);
         place = refl;
         inside = omega (arith, i .inside, length-drop at s);
       }
 
-  view-few : length (i .passed) ≤ 8 → View s at (gathered at (run bs))
+  view-few : length (i .passed) ≤ 8 → View s at (gathered at (span bs))
   view-few h =
-      subst (View s at) (sym (ap (λ (cs : List ℕ). gathered at (run cs)) (i .split) ∙ gathered-few at (i .passed) (i .last) h))
+      subst (View s at) (sym (ap (λ (cs : List ℕ). gathered at (span cs)) (i .split) ∙ gathered-few at (i .passed) (i .last) h))
       (record { seen = whole (128 ^ length (i .passed)) refl; few = h })
 
-  view-ten : length (i .passed) ≡ 9 → View s at (gathered at (run bs))
+  view-ten : length (i .passed) ≡ 9 → View s at (gathered at (span bs))
   view-ten h =
-      subst (View s at) (sym (ap (λ (cs : List ℕ). gathered at (run cs)) (i .split) ∙ gathered-ten at (i .passed) (i .last) h (ltb-true (i .last) 128 (i .stops))))
+      subst (View s at) (sym (ap (λ (cs : List ℕ). gathered at (span cs)) (i .split) ∙ gathered-ten at (i .passed) (i .last) h (ltb-true (i .last) 128 (i .closes))))
       (record { seen = whole (2 ^ 63) (sym (ap (λ (m : ℕ). 128 ^ m) h)); ten = h })
 
-  view-long : 9 < length (i .passed) → View s at (gathered at (run bs))
+  view-long : 9 < length (i .passed) → View s at (gathered at (span bs))
   view-long h =
       let t : tenth bs ≡ getD (i .passed) 9 0 = ap tenth (i .split) ∙ List·getD-append (i .passed) (i .last ∷ []) 0 9 h in
       let l : 128 ≤ tenth bs = omega (arith, t, ltb-false (getD (i .passed) 9 0) 128 (i .goes 9 h)) in
       let k : 10 ≤ length bs = omega (arith, ap length (i .split), length-snoc (i .passed) (i .last)) in
       subst (View s at) (sym (gathered-long at bs k l)) (subst IsCut (sym e) l)
 
-  view-run : View s at (gathered at (run bs))
-  view-run =
+  view-span : View s at (gathered at (span bs))
+  view-span =
       elim (decLt (length (i .passed)) 9) [
         | yes h ↦ view-few (omega arith)
         | no h ↦ elim (decLt 9 (length (i .passed))) [ yes l ↦ view-long l | no l ↦ view-ten (omega arith) ]
       ]
 
-view-of : (s : List ℕ) (at : ℕ) (x : Run) → bytesAt s at ≡ x → View s at (gathered at x)
-view-of s at (run bs) e = view-run s at e (is-run isLast (drop at s) e)
+view-of : (s : List ℕ) (at : ℕ) (x : Span) → bytesAt s at ≡ x → View s at (gathered at x)
+view-of s at (span bs) e = view-span s at e (is-span isLast (drop at s) e)
 view-of s at unended e = subst IsCut (sym e) tt
 
 pub view : (s : List ℕ) (at : ℕ) → View s at (gatheredAt s at)

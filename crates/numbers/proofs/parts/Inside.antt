@@ -6,11 +6,11 @@ use native.Mathlib.Omega.{arith}
 use native.Mathlib.Nat.{add-comm, zero-add, add-sub-cancel-left}
 use borrow.Author.Tests.{le-leb, lt-leb}
 use lib.ListN.{length, take, drop}
-use Rattle.numbers.specs.Parts.{partOf, placeOf, partAt}
+use Rattle.numbers.specs.Parts.{partOf, liesAt, partAt}
 
 module _ (p : ℕ × ℕ) (s : List ℕ) (at len : ℕ) where
   none : length s < at + len → ((p .0, 0 + p .1), []) ≡ partAt p s at len
-  unfolding placeOf partOf
+  unfolding liesAt partOf
   none h = rw (lt-leb (at + len) (length s) h, zero-add (p .1))
 
   pub begins-past : length s < at → ((p .0, 0 + p .1), []) ≡ partAt p s at len
@@ -20,7 +20,7 @@ module _ (p : ℕ × ℕ) (s : List ℕ) (at len : ℕ) where
   ends-past h l = none (omega arith)
 
   pub lies-in : at ≤ length s → len ≤ length s - at → ((p .0, at + p .1), take (at + len - at) (drop at s)) ≡ partAt p s at len
-  unfolding placeOf partOf
+  unfolding liesAt partOf
   lies-in h l =
       rw (le-leb (at + len) (length s) (omega arith), add-comm at (p .1), add-sub-cancel-left at len)
 

@@ -7,7 +7,7 @@ use borrow.Author.Tests.{eq-eqb, ne-eqb}
 use lib.ListN.{length, getD}
 use Rattle.numbers.specs.Strings.{isNul, stringOf, stringAt}
 use Rattle.numbers.specs.declared.strings.Text.the-variants.{Found, Fault}
-use Rattle.numbers.proofs.Runs.{Passed, length-snoc, none-passed, one-passed, runs-out, run-ends}
+use Rattle.numbers.proofs.Spans.{Passed, length-snoc, none-passed, one-passed, runs-out, span-ends}
 
 module _ {s : List ℕ} {from at : ℕ} (i : Passed isNul s from at) where
   pub string-ends : at < length s → getD s at 0 ≡ 0 → Found from (at - from) (at + 1) ≡ stringAt s from
@@ -16,7 +16,7 @@ module _ {s : List ℕ} {from at : ℕ} (i : Passed isNul s from at) where
       let n = length-snoc (i .passed) (getD s at 0) in
       let e : at - from ≡ length (i .passed ++ (getD s at 0 ∷ [])) - 1 = omega (arith, n, i .place) in
       let f : at + 1 ≡ from + length (i .passed ++ (getD s at 0 ∷ [])) = omega (arith, n, i .place) in
-      (λ j. Found from (e j) (f j)) ∙ sym (ap (stringOf from) (run-ends i h (eq-eqb (getD s at 0) 0 b)))
+      (λ j. Found from (e j) (f j)) ∙ sym (ap (stringOf from) (span-ends i h (eq-eqb (getD s at 0) 0 b)))
 
   pub string-goes-on : at < length s → (getD s at 0 ≡ 0 → ⊥) → Passed isNul s from (at + 1)
   string-goes-on h b = one-passed i h (ne-eqb (getD s at 0) 0 b)

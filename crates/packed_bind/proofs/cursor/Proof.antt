@@ -1,6 +1,6 @@
 -- `packed_bind::cursor` meets its contract. Assumes nothing.
-use Rattle.packed_bind.proofs.States.{state-fits}
-use Rattle.packed_bind.specs.Packed.{stateFields}
+use Rattle.packed_bind.proofs.States.{state-record}
+use Rattle.packed_bind.specs.Packed.{largest}
 use Rattle.packing.proofs.Fields.{byte-fits}
 use borrow.Author.Needs.{needs}
 use Rattle.packed_bind.proofs.cursor.Statement.{statement}
@@ -12,7 +12,7 @@ cursor-spec =
     (tie.spec
     (λ c κs. search needs)
     (λ c κs. search needs)
-    (λ c. search (byte-fits stateFields, state-fits, needs))
+    (λ c. search (byte-fits largest, state-record, needs))
     (λ c κs. search needs)
     (λ c κs. search needs)
     (λ c κs. search needs)

@@ -1,6 +1,5 @@
 -- `packed_bind::item_words` meets its contract. Assumes nothing.
 use Rattle.numbers.proofs.Widths.{wide-fits}
-use Rattle.packed_bind.proofs.Items.{item-is}
 use Rattle.packing.proofs.Signs.{narrow-word, signed-word}
 use borrow.Author.Needs.{needs}
 use Rattle.packed_bind.proofs.item_words.Statement.{statement}
@@ -16,4 +15,7 @@ item-words-spec =
     (λ c κs. search needs)
     (λ c. search needs)
     (λ c κs. search needs)
-    (λ c. search (item-is, narrow-word, signed-word, needs)))
+    (λ c.
+    let x = c .before .before .before .before .before .before .before .before .args .x in
+    let library = narrow-word {z = x .library} (search needs) (c .before .before .before .unsigned .ensures) in
+    cc (library, signed-word {z = x .addend} (search needs) (c .unsigned2 .ensures))))

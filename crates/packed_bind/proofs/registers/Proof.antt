@@ -1,6 +1,7 @@
 -- `packed_bind::registers` meets its contract. Assumes nothing.
-use Rattle.packed_bind.proofs.States.{state-fits, library-is}
-use Rattle.packed_bind.specs.Packed.{stateFields}
+use Rattle.packed_bind.proofs.Signs.{i32-fits}
+use Rattle.packed_bind.proofs.States.{state-record, library-is}
+use Rattle.packed_bind.specs.Packed.{largest}
 use Rattle.packing.proofs.Fields.{byte-fits}
 use mir.Syntax.{w32, w64}
 use mir.Facts.{toZ-ofZ}
@@ -18,15 +19,20 @@ registers-spec =
     (λ c κs. search needs)
     (λ c κs. search needs)
     (λ c κs. search needs)
-    (λ c. search (byte-fits stateFields, state-fits, needs))
+    (λ c. search (byte-fits largest, state-record, needs))
     (λ c κs. search needs)
-    (λ c. search (byte-fits stateFields, state-fits, needs))
-    (λ c κs. search needs)
-    (λ c κs. search (library-is, needs))
+    (λ c. search (byte-fits largest, state-record, needs))
     (λ c κs. search needs)
     (λ c κs. search needs)
+    (λ c. search (i32-fits, library-is, needs))
     (λ c κs. search needs)
-    (λ c. search (byte-fits stateFields, state-fits, needs))
     (λ c κs. search needs)
     (λ c κs. search needs)
-    (λ c. cc (toZ-ofZ {w = w32} {z = c .before .before .before .before .before .narrow .result} (search needs), toZ-ofZ {w = w64} {z = c .signed .result} (search needs))))
+    (λ c. search (byte-fits largest, state-record, needs))
+    (λ c κs. search needs)
+    (λ c κs. search needs)
+    (λ c.
+    let library = c .before .before .before .before .before .signed .result in
+    let narrow = toZ-ofZ {w = w32} {z = library} (search (i32-fits, library-is, needs)) in
+    let addend = toZ-ofZ {w = w64} {z = c .signed2 .result} (search needs) in
+    cc (toZ-ofZ {w = w64} {z = library} (search needs), narrow, addend)))

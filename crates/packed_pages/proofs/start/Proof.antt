@@ -1,8 +1,9 @@
 -- `packed_pages::start` meets its contract. Assumes nothing.
-use Rattle.packed_pages.proofs.Records.{half-most, record-unfit, record-fits}
+use Rattle.packed_pages.proofs.Records.{record-unfit, record-is}
 use Rattle.packed_pages.specs.Packed.{states}
 use Rattle.packed_segments.specs.Packed.{segmentFields}
 use Rattle.packing.proofs.Boundary.{tested, over, two, started-unfit, not-started, begins}
+use Rattle.packing.proofs.Fields.{word-most}
 use Rattle.pages.specs.Told.{startTold}
 use borrow.Author.Needs.{needs}
 use native.Mathlib.Omega.{arith}
@@ -16,16 +17,16 @@ start-spec =
     (λ c. started-unfit _ _ _ (λ e. omega (arith, e)))
     (λ c. search needs)
     (λ c κs. search needs)
-    (λ c κs. search (half-most segmentFields, tested, needs))
+    (λ c κs. search (word-most segmentFields, tested, needs))
     (λ c κs. search needs)
     (λ c. search needs)
     (λ c κs. search needs)
     (λ c. search needs)
     (λ c κs. search needs)
     (λ c. search needs)
-    (λ c. search (begins states startTold, two, over, record-fits, tested, needs))
+    (λ c. search (begins states startTold, two, over, record-is, tested, needs))
     (λ c. search needs)
     (λ c κs. search needs)
     (λ c. search needs)
-    (λ c. search (begins states startTold, two, record-fits, tested, needs))
+    (λ c. search (begins states startTold, two, record-is, tested, needs))
     (λ c. search (not-started, record-unfit, tested, needs)))

@@ -1,5 +1,5 @@
 -- `packed_rebase::held` meets its contract. Assumes nothing.
-use Rattle.packed_rebase.specs.Packed.{stateFields}
+use Rattle.packed_rebase.specs.Packed.{largest}
 use Rattle.packing.proofs.Fields.{byte-fits}
 use borrow.Author.Needs.{needs}
 use Rattle.packed_rebase.proofs.held.Statement.{statement}
@@ -11,7 +11,7 @@ held-spec =
     (tie.spec
     (λ c κs. search needs)
     (λ c κs. search needs)
-    (λ c. search (byte-fits stateFields, needs))
+    (λ c. search (byte-fits largest, needs))
     (λ c κs. search needs)
     (λ c κs. search needs)
     (λ c κs. search needs)
@@ -19,7 +19,7 @@ held-spec =
     (λ c κs. search needs)
     (λ c κs. search needs)
     (λ c κs. search needs)
-    (λ c. search (byte-fits stateFields, needs))
+    (λ c. search (byte-fits largest, needs))
     (λ c κs. search needs)
-    (λ c. search (byte-fits stateFields, needs))
+    (λ c. search (byte-fits largest, needs))
     (λ c. cc))

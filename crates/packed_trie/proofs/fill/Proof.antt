@@ -6,7 +6,7 @@ use Rattle.packed_trie.proofs.fill.Statement.{statement}
 use Rattle.packed_trie.proofs.fill.Tie as tie
 
 abbrev Inv-loop : tie.InvT-loop
-Inv-loop s first words₀ i₀ words i = Reading 256 s first 256 words i
+Inv-loop s first words₀ i₀ words i = Reading s first 256 words i
 
 abbrev μ-loop : tie.MeasureT-loop
 μ-loop s first words₀ i₀ words i = 256 - i

@@ -3,7 +3,7 @@ use Prim.Native.Nat.{_-_}
 use native.Mathlib.Omega.{arith}
 use lib.ListN.{length}
 use Rattle.numbers.specs.Strings.{isNul}
-use Rattle.numbers.proofs.Runs.{Passed}
+use Rattle.numbers.proofs.Spans.{Passed}
 use Rattle.numbers.proofs.strings.Nuls.{string-laws}
 use Rattle.numbers.proofs.strings.read_string.Statement.{statement}
 use Rattle.numbers.proofs.strings.read_string.Tie as tie

@@ -9,7 +9,7 @@ abbrev Inv-loop : tie.InvT-loop
 Inv-loop s segment w₀ w = Paging s w₀ w
 
 abbrev μ-loop : tie.MeasureT-loop
-μ-loop s segment w₀ w = w₀ .segment .pages - w .page
+μ-loop s segment w₀ w = w₀ .segment .«page_count» - w .page
 
 pub pages-spec : {M : Type 1} → statement M
 pages-spec =

@@ -1,26 +1,24 @@
 -- `preflight::rebase_flight::fly_rebases` meets its contract. Assumes nothing.
 use borrow.Author.Needs.{needs}
 use Prim.Native.Nat.{_-_}
+use mathlib.Core.Path.{ap}
 use lib.ListN.{length}
 use Rattle.rebase.specs.Rebases.{rebases}
-use Rattle.listing.specs.Listing.{listingOf}
-use Rattle.listing.specs.Stream.{before}
-use Rattle.operations.proofs.Laws.{rebase-told}
-use Rattle.preflight.specs.Verdict.{verdict, withSizes}
-use Rattle.preflight.proofs.Loops.{Flying, not-fit, takes-off, parsed-as, flown-as, further, counts, flies-on}
+use Rattle.preflight.specs.Told.{rebaseView, rebaseLeg}
+use Rattle.preflight.specs.Verdict.{withSizes}
+use Rattle.preflight.proofs.Loops.{Flying, not-fit, takes-off, has-said, further, flies-on}
 use Rattle.preflight.proofs.Machines.{rebase-placed}
 use Rattle.preflight.proofs.rebase_flight.fly_rebases.Statement.{statement}
 use Rattle.preflight.proofs.rebase_flight.fly_rebases.Tie as tie
 
 abbrev Inv-loop : tie.InvT-loop
-Inv-loop s size sizes at₀ operations₀ registers₀ offset₀ at operations registers offset =
-    Flying rebases size sizes s (withSizes rebases registers₀ size sizes s) at operations registers offset
+Inv-loop s size sizes flight₀ flight =
+    Flying rebases size sizes s (withSizes rebases (flight₀ .registers) size sizes s) (rebaseView flight)
 
 abbrev μ-loop : tie.MeasureT-loop
-μ-loop s size sizes at₀ operations₀ registers₀ offset₀ at operations registers offset = length s - at
+μ-loop s size sizes flight₀ flight = length s - flight .at
 
 pub fly-rebases-spec : {M : Type 1} → statement M
-unfolding verdict listingOf before
 fly-rebases-spec =
     tie.close
     (tie.spec
@@ -31,18 +29,7 @@ fly-rebases-spec =
     (λ c. search (takes-off rebases, needs))
     (λ c κs. search needs)
     (λ c. search needs)
-    (λ c. search (parsed-as rebase-placed, rebase-told, needs))
+    (λ c. search (further rebases rebase-placed, ap rebaseLeg, needs))
+    (λ c. search (flies-on rebases rebase-placed, ap rebaseLeg, needs))
     (λ c. search needs)
-    (λ c. search (parsed-as rebase-placed, rebase-told, needs))
-    (λ c. search needs)
-    (λ c. search (counts rebase-placed, rebase-told, needs))
-    (λ c κs. search needs)
-    (λ c κs. search needs)
-    (λ c κs. search needs)
-    (λ c. search needs)
-    (λ c. search (further rebase-placed, rebase-told, needs))
-    (λ c. search (flies-on rebase-placed, rebase-told, needs))
-    (λ c. search needs)
-    (λ c. search (flown-as rebase-placed, rebase-told, needs))
-    (λ c. search needs)
-    (λ c. search (flown-as rebase-placed, rebase-told, needs)))
+    (λ c. search (has-said rebases rebase-placed, ap rebaseLeg, needs)))

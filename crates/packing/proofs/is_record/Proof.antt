@@ -1,11 +1,11 @@
--- `packing::fits` meets its contract. Assumes nothing.
+-- `packing::is_record` meets its contract. Assumes nothing.
 use Prim.Native.Nat.{_-_}
-use Rattle.packing.proofs.Fields.{Testing, tests-none, tests-on, too-large, tests-all, other-length}
+use Rattle.packing.proofs.Fields.{Testing, tests-on, too-large, tests-all, other-length}
 use borrow.Author.Needs.{needs}
 use lib.ListN.{length}
 use native.Mathlib.Omega.{arith}
-use Rattle.packing.proofs.fits.Statement.{statement}
-use Rattle.packing.proofs.fits.Tie as tie
+use Rattle.packing.proofs.is_record.Statement.{statement}
+use Rattle.packing.proofs.is_record.Tie as tie
 
 abbrev Inv-loop : tie.InvT-loop
 Inv-loop s largest i₀ i = Testing s largest i
@@ -13,15 +13,15 @@ Inv-loop s largest i₀ i = Testing s largest i
 abbrev μ-loop : tie.MeasureT-loop
 μ-loop s largest i₀ i = length largest - i
 
-pub fits-spec : {M : Type 1} → statement M
-fits-spec =
+pub is-record-spec : {M : Type 1} → statement M
+is-record-spec =
     tie.close
     (tie.spec
     Inv-loop
     μ-loop
     (λ c. other-length _ _ (λ e. omega (arith, e)))
     (λ c. other-length _ _ (λ e. omega (arith, e)))
-    (λ c. search (tests-none, arith))
+    (λ c. search arith)
     (λ c. search needs)
     (λ c. search needs)
     (λ c κs. search needs)

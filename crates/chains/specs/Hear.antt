@@ -11,10 +11,10 @@ use Rattle.refusal.specs.Numbers.{numberOf}
 use Rattle.refusal.specs.declared.Refusal.the-variants.{FaultyChains}
 use Rattle.runs.specs.Runs.{Answer, item, end, refused}
 
-abbrev pub heard : {W X : Type 0} → Answer W X → Answer W (Entry X)
-heard (item x w) = item (segment x) w
-heard (end w) = end w
-heard (refused number w) = cond (eqb number (numberOf FaultyChains)) (item (refusal number) w) (refused number w)
+abbrev pub asEntry : {W X : Type 0} → Answer W X → Answer W (Entry X)
+asEntry (item x w) = item (segment x) w
+asEntry (end w) = end w
+asEntry (refused number w) = cond (eqb number (numberOf FaultyChains)) (item (refusal number) w) (refused number w)
 
 abbrev pub hear : List ℕ → SegmentWalk → Answer SegmentWalk (Entry Segment)
-hear s w = heard (call s w)
+hear s w = asEntry (call s w)
