@@ -6,25 +6,29 @@ use mathlib.Core.List.{List, _∷_, _++_}
 use native.Mathlib.Nat.{le-trans}
 use native.Mathlib.Omega.{arith}
 use borrow.Author.Tests.{eqb-true, le-leb}
-use lib.Dec.{eqb}
+use lib.Dec.{ltb, eqb}
 use lib.ListN.{length, getD, set, take, drop, length-set, length-append, length-drop}
 use lib.Seq.{getD-set-same, getD-set-other, length-take-le, take-append-le, take-at, take-take}
 use Rattle.numbers.proofs.Laws.{part-length}
 use Rattle.numbers.specs.Parts.{partOf}
 use Rattle.refusal.specs.Numbers.{numberOf}
 use Rattle.refusal.specs.declared.Refusal.{Refusal}
-use Rattle.refusal.specs.declared.Refusal.the-variants.{TooManyOpenNodes}
+use Rattle.refusal.specs.declared.Refusal.the-variants.{FaultyNode, TooManyOpenNodes, NameTooLong}
 use Rattle.runs.proofs.Walks.{then-then}
 use Rattle.runs.specs.Runs.{Run, stops, fails, gives, _then_}
 use Rattle.trie.specs.Call.{put}
-use Rattle.trie.specs.Child.{childAt}
-use Rattle.trie.specs.Frames.{most, topDown, stillOpen}
-use Rattle.trie.specs.Listing.{Visit, visit, child, children, subtree}
+use Rattle.trie.specs.Frames.{topDown, stillOpen}
+use Rattle.trie.specs.NextChild.{childAt}
+use Rattle.nodes.specs.Child.{thenEdge, isOneOf, enteredAt}
+use Rattle.nodes.specs.ExportsTrie.{edgeAt}
+use Rattle.nodes.specs.Listing.{Visit, visit, entered, ifRoom, childBy, childrenBy, children, subtreeBy, subtree}
 use Rattle.trie.specs.declared.TrieWalk.{TrieWalk}
-use Rattle.trie.specs.declared.child.Child.{Child}
-use Rattle.trie.specs.declared.child.Child.the-variants.{Found, Refused}
-use Rattle.trie.specs.declared.node.Edge.{Edge}
-use Rattle.trie.specs.declared.node.Node.{Node}
+use Rattle.nodes.specs.declared.child.Child.{Child}
+use Rattle.nodes.specs.declared.child.Child.the-variants.{Found, Refused}
+use Rattle.nodes.specs.declared.node.Edge.{Edge}
+use Rattle.nodes.specs.declared.node.EdgeRead.{EdgeRead}
+use Rattle.nodes.specs.declared.node.EdgeRead.the-variants as edge
+use Rattle.nodes.specs.declared.node.Node.{Node}
 
 -- ---- what is put into the buffer
 
@@ -75,12 +79,12 @@ nested-still w m (suc d) h =
     by true k = k
     by false k = h
 
--- the arrays of every state that the code has
-pub record Sized (w : TrieWalk) : Type 0 where
-  pub places : length (w .places) ≡ 256
-  pub offsets : length (w .offsets) ≡ 256
-  pub left : length (w .left) ≡ 256
-  pub lengths : length (w .lengths) ≡ 256
+-- the arrays have room for as many nodes as may be open
+pub record Sized (most : ℕ) (w : TrieWalk) : Type 0 where
+  pub places : length (w .places) ≡ most
+  pub offsets : length (w .offsets) ≡ most
+  pub left : length (w .left) ≡ most
+  pub lengths : length (w .lengths) ≡ most
 
 -- two walks have the same for the first d
 pub record Same (v w : TrieWalk) (d : ℕ) : Type 0 where
@@ -111,7 +115,7 @@ nested-same v w m (suc d) q h =
 
 -- ---- what is still to be listed
 
-module _ (s : List ℕ) (room : ℕ) where
+module _ (most : ℕ) (s : List ℕ) (room : ℕ) where
   -- the children that the first d open nodes have left, the topmost's first
   unfoldable pub aheadAt : TrieWalk → (buffer : List ℕ) (d : ℕ) → Run Visit
   aheadAt w b zero = stops
@@ -128,7 +132,7 @@ module _ (s : List ℕ) (room : ℕ) where
       by : (t : Bool) → eqb (getD (w .left) d 0) 0 ≡ t → aheadAt w b d ≡ aheadAt w b (stillOpen (w .left) d)
           → aheadAt w b (suc d) ≡ aheadAt w b (cond t (stillOpen (w .left) d) (suc d))
       by true e k =
-          unfold aheadAt children _then_ in
+          unfold aheadAt childrenBy _then_ in
           (ap (λ (n : ℕ). children s room (subtree s room (most - suc d)) (topDown (w .offsets) (suc d)) (take (getD (w .lengths) d 0) b) n (getD (w .places) d 0) then aheadAt w b d)
           (eqb-true (getD (w .left) d 0) 0 e)
           ∙ k)
@@ -144,6 +148,19 @@ module _ (s : List ℕ) (room : ℕ) where
       let r = ahead-same v w b c (getD (w .lengths) d 0) d (fewer v w d q) (λ i l. e i (le-trans l (h .0))) (h .1) in
       λ j. children s room (subtree s room (most - suc d)) (o j) (n j) (q .left d (omega arith) j) (q .places d (omega arith) j) then r j
 
+  -- a child as a call reads it
+  read-by : (below : (ancestors name : List ℕ) (offset : ℕ) → Node → Run Visit) (later : ℕ → Run Visit) (ancestors name : List ℕ) (x : EdgeRead)
+      → childBy s (ifRoom room) below later ancestors name x
+      ≡ entered s below later ancestors name
+      (thenEdge x (Refused FaultyNode) (λ e. cond (ltb room (length name + e .length)) (Refused NameTooLong) (enteredAt s (isOneOf (e .offset) ancestors) e)))
+  unfolding childBy entered thenEdge
+  read-by below later ancestors name edge.Fault = refl
+  read-by below later ancestors name (edge.Found e) = by (ltb room (length name + e .length)) (enteredAt s (isOneOf (e .offset) ancestors) e)
+    where
+      by : (t : Bool) (c : Child) → cond t (fails (numberOf NameTooLong)) (entered s below later ancestors name c) ≡ entered s below later ancestors name (cond t (Refused NameTooLong) c)
+      by true c = refl
+      by false c = refl
+
   -- ---- the next child of the topmost of suc d, which has one
 
   module _ (w : TrieWalk) (b : List ℕ) (d : ℕ) (h : Nested w (length b) (suc d)) where
@@ -155,23 +172,24 @@ module _ (s : List ℕ) (room : ℕ) where
     later next = children s room (subtree s room (most - suc d)) (topDown (w .offsets) (suc d)) (take kept b) (getD (w .left) d 0 - 1) next
 
     child-ahead : (getD (w .left) d 0 ≡ 0 → ⊥) → {x : Child} → childAt s room (topDown (w .offsets) (suc d)) kept (getD (w .places) d 0) ≡ x
-        → aheadAt w b (suc d) ≡ child s room (subtree s room (most - suc d)) later (topDown (w .offsets) (suc d)) (take kept b) x then aheadAt w b d
-    unfolding aheadAt children
+        → aheadAt w b (suc d) ≡ entered s (subtree s room (most - suc d)) later (topDown (w .offsets) (suc d)) (take kept b) x then aheadAt w b d
+    unfolding aheadAt childrenBy childAt
     child-ahead z {x} e =
         let n : getD (w .left) d 0 ≡ suc (getD (w .left) d 0 - 1) = omega arith in
         let l : length (take kept b) ≡ kept = length-take-le kept b (h .0) in
         ap (λ (k : ℕ). children s room (subtree s room (most - suc d)) (topDown (w .offsets) (suc d)) (take kept b) k (getD (w .places) d 0) then aheadAt w b d) n
-        ∙ ap (λ (k : ℕ). child s room (subtree s room (most - suc d)) later (topDown (w .offsets) (suc d)) (take kept b) (childAt s room (topDown (w .offsets) (suc d)) k (getD (w .places) d 0)) then aheadAt w b d) l
-        ∙ ap (λ (y : Child). child s room (subtree s room (most - suc d)) later (topDown (w .offsets) (suc d)) (take kept b) y then aheadAt w b d) e
+        ∙ ap (λ (r : Run Visit). r then aheadAt w b d) (read-by (subtree s room (most - suc d)) later (topDown (w .offsets) (suc d)) (take kept b) (edgeAt s (getD (w .places) d 0)))
+        ∙ ap (λ (k : ℕ). entered s (subtree s room (most - suc d)) later (topDown (w .offsets) (suc d)) (take kept b) (childAt s room (topDown (w .offsets) (suc d)) k (getD (w .places) d 0)) then aheadAt w b d) l
+        ∙ ap (λ (y : Child). entered s (subtree s room (most - suc d)) later (topDown (w .offsets) (suc d)) (take kept b) y then aheadAt w b d) e
 
     pub refused-ahead : (getD (w .left) d 0 ≡ 0 → ⊥) → {x : Refusal} → childAt s room (topDown (w .offsets) (suc d)) kept (getD (w .places) d 0) ≡ Refused x
         → aheadAt w b (suc d) ≡ fails (numberOf x)
-    refused-ahead z e = child-ahead z e ∙ (unfold child _then_ in refl)
+    refused-ahead z e = child-ahead z e ∙ (unfold entered _then_ in refl)
 
     module _ (x : Edge) (n : Node) where
       pub full-ahead : (getD (w .left) d 0 ≡ 0 → ⊥) → childAt s room (topDown (w .offsets) (suc d)) kept (getD (w .places) d 0) ≡ Found x n → most ≤ suc d
           → aheadAt w b (suc d) ≡ fails (numberOf TooManyOpenNodes)
-      unfolding child subtree _then_
+      unfolding entered subtreeBy _then_
       full-ahead z e l =
           let k : most - suc d ≡ 0 = omega arith in
           child-ahead z e
@@ -189,14 +207,13 @@ module _ (s : List ℕ) (room : ℕ) where
             left = set (set (w .left) d (getD (w .left) d 0 - 1)) (suc d) (n .children);
             lengths = set (w .lengths) (suc d) (kept + x .length);
             depth = suc d + 1;
-            begun = true;
             ended = w .ended;
           }
 
       abbrev pub buffer : List ℕ
       buffer = put (partOf s (x .place) (x .length)) b kept
 
-      module _ (sized : Sized w) (l : suc d < most) (fits : kept + x .length ≤ length b) (inside : x .place + x .length ≤ length s) where
+      module _ (sized : Sized most w) (l : suc d < most) (fits : kept + x .length ≤ length b) (inside : x .place + x .length ≤ length s) where
         untouched : (xs : List ℕ) (i u v : ℕ) → i < d → getD (set (set xs d u) (suc d) v) i 0 ≡ getD xs i 0
         untouched xs i u v k =
             getD-set-other (set xs d u) (suc d) i v 0 (λ z. omega arith) ∙ getD-set-other xs d i u 0 (λ z. omega arith)
@@ -204,10 +221,10 @@ module _ (s : List ℕ) (room : ℕ) where
         below : (xs : List ℕ) (i v : ℕ) → i < suc d → getD (set xs (suc d) v) i 0 ≡ getD xs i 0
         below xs i v k = getD-set-other xs (suc d) i v 0 (λ z. omega arith)
 
-        under : (xs : List ℕ) (u v : ℕ) → length xs ≡ 256 → getD (set (set xs d u) (suc d) v) d 0 ≡ u
+        under : (xs : List ℕ) (u v : ℕ) → length xs ≡ most → getD (set (set xs d u) (suc d) v) d 0 ≡ u
         under xs u v k = below (set xs d u) d v (omega arith) ∙ getD-set-same xs d u 0 (omega arith)
 
-        on-top : (xs : List ℕ) (v : ℕ) → length xs ≡ 256 → getD (set xs (suc d) v) (suc d) 0 ≡ v
+        on-top : (xs : List ℕ) (v : ℕ) → length xs ≡ most → getD (set xs (suc d) v) (suc d) 0 ≡ v
         on-top xs v k = getD-set-same xs (suc d) v 0 (omega arith)
 
         same-below : Same after w d
@@ -231,7 +248,7 @@ module _ (s : List ℕ) (room : ℕ) where
 
         pub opened-ahead : (getD (w .left) d 0 ≡ 0 → ⊥) → childAt s room (topDown (w .offsets) (suc d)) kept (getD (w .places) d 0) ≡ Found x n
             → aheadAt w b (suc d) ≡ gives (visit name (x .offset) (n .terminal)) (aheadAt after buffer (suc (suc d)))
-        unfolding child subtree _then_ aheadAt topDown
+        unfolding entered subtreeBy _then_ aheadAt topDown
         opened-ahead z e =
             let k : most - suc d ≡ suc (most - suc (suc d)) = omega arith in
             let v = visit name (x .offset) (n .terminal) in
@@ -253,7 +270,7 @@ module _ (s : List ℕ) (room : ℕ) where
             (children s room (subtree s room (most - suc (suc d))) (sym f j ∷ t j) (m j) (sym c j) (sym p j)
             then (children s room (subtree s room (most - suc d)) (t j) (m₂ j) (sym c₂ j) (sym p₂ j) then sym r j)))
 
-        pub sized-after : Sized after
+        pub sized-after : Sized most after
         sized-after =
             record {
               places = length-set (set (w .places) d (x .next)) (suc d) (n .place) ∙ length-set (w .places) d (x .next) ∙ sized .places;

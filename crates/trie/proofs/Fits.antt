@@ -13,24 +13,26 @@ use Rattle.numbers.proofs.Picks.{neither}
 use Rattle.numbers.proofs.Laws.{part-length}
 use Rattle.numbers.specs.Parts.{partOf}
 use Rattle.trie.proofs.Ahead.{put-length}
-use Rattle.trie.proofs.Children.{EdgeIn, edge-in, NodeIn, node-in, Read, child-read}
-use Rattle.trie.proofs.Course.{next, next-by, IfReached, InRange}
+use Rattle.nodes.proofs.Inside.{EdgeIn, edge-in, NodeIn, node-in}
+use Rattle.trie.proofs.Children.{Read, child-read}
+use Rattle.trie.proofs.Course.{Unfinished, next, next-by, IfReached, InRange}
 use Rattle.trie.proofs.Visits.{still-at-most}
-use Rattle.trie.specs.Call.{closed, onTop, opened, childOf, childName, childOpened, edgePut}
-use Rattle.trie.specs.ExportsTrie.{nodeAt}
-use Rattle.trie.specs.Frames.{most, openNodes, topDown, any, outOfRange, stillOpen}
+use Rattle.trie.specs.Call.{closed, onTop, rooted, childOf, childName, childOpened, edgePut}
+use Rattle.nodes.specs.Child.{any}
+use Rattle.nodes.specs.ExportsTrie.{nodeAt}
+use Rattle.trie.specs.Frames.{topDown, outOfRange, stillOpen}
 use Rattle.trie.specs.declared.TrieWalk.{TrieWalk}
-use Rattle.trie.specs.declared.child.Child.the-variants.{Found}
-use Rattle.trie.specs.declared.node.Edge.{Edge}
-use Rattle.trie.specs.declared.node.Node.{Node}
-use Rattle.trie.specs.declared.node.NodeRead.the-variants as node
+use Rattle.nodes.specs.declared.child.Child.the-variants.{Found}
+use Rattle.nodes.specs.declared.node.Edge.{Edge}
+use Rattle.nodes.specs.declared.node.Node.{Node}
+use Rattle.nodes.specs.declared.node.NodeRead.the-variants as node
 
 -- ---- a state in range, element by element
 
-pub record Fit (bytes room : ℕ) (w : TrieWalk) : Type 0 where
-  pub few : openNodes (w .begun) (w .depth) ≤ 256
-  pub places : (i : ℕ) → i < openNodes (w .begun) (w .depth) → getD (w .places) i 0 ≤ bytes
-  pub lengths : (i : ℕ) → i < openNodes (w .begun) (w .depth) → getD (w .lengths) i 0 ≤ room
+pub record Fit (most bytes room : ℕ) (w : TrieWalk) : Type 0 where
+  pub few : w .depth ≤ most
+  pub places : (i : ℕ) → i < w .depth → getD (w .places) i 0 ≤ bytes
+  pub lengths : (i : ℕ) → i < w .depth → getD (w .lengths) i 0 ≤ room
 
 any-none : (p : ℕ → Bool) (xs : List ℕ) (d : ℕ) → ((i : ℕ) → i < d → p (getD xs i 0) ≡ false) → any p (topDown xs d) ≡ false
 unfolding any topDown
@@ -47,11 +49,11 @@ all-not p xs (suc d) e i l =
       | no k ↦ let q : i ≡ d = omega arith in rw q (h .0)
     ]
 
-pub fit : (s : List ℕ) (room : ℕ) (w : TrieWalk) → InRange s room w → Fit (length s) room w
+pub fit : (most : ℕ) (s : List ℕ) (room : ℕ) (w : TrieWalk) → InRange most s room w → Fit most (length s) room w
 unfolding outOfRange
-fit s room w e =
+fit most s room w e =
     let bytes = length s in
-    let d = openNodes (w .begun) (w .depth) in
+    let d = w .depth in
     let h = neither (ltb most d) (any (λ y. ltb bytes y) (topDown (w .places) d) || any (λ y. ltb room y) (topDown (w .lengths) d)) e in
     let k = neither (any (λ y. ltb bytes y) (topDown (w .places) d)) (any (λ y. ltb room y) (topDown (w .lengths) d)) (h .1) in
     record {
@@ -60,11 +62,11 @@ fit s room w e =
       lengths = λ i l. ltb-false room (getD (w .lengths) i 0) (all-not (λ y. ltb room y) (w .lengths) d (k .1) i l);
     }
 
-pub ranged : (s : List ℕ) (room : ℕ) (w : TrieWalk) → Fit (length s) room w → InRange s room w
+pub ranged : (most : ℕ) (s : List ℕ) (room : ℕ) (w : TrieWalk) → Fit most (length s) room w → InRange most s room w
 unfolding outOfRange
-ranged s room w f =
+ranged most s room w f =
     let bytes = length s in
-    let d = openNodes (w .begun) (w .depth) in
+    let d = w .depth in
     rw (le-ltb most d (f .few), any-none (λ y. ltb bytes y) (w .places) d (λ i l. le-ltb bytes (getD (w .places) i 0) (f .places i l)))
     (any-none (λ y. ltb room y) (w .lengths) d (λ i l. le-ltb room (getD (w .lengths) i 0) (f .lengths i l)))
 
@@ -106,72 +108,65 @@ module _ (s : List ℕ) (w : TrieWalk) (b : List ℕ) (e : Edge) (n : Node) (g :
 
 -- ---- a state in range stays so
 
-pub record Sound (s : List ℕ) (room : ℕ) (w : TrieWalk) (b : List ℕ) : Type 0 where
+pub record Sound (most : ℕ) (s : List ℕ) (room : ℕ) (w : TrieWalk) (b : List ℕ) : Type 0 where
   pub long : length b ≡ room
   pub going : w .ended ≡ false
-  pub fit : Fit (length s) room w
+  pub fit : Fit most (length s) room w
 
-module _ (s : List ℕ) (room : ℕ) (w : TrieWalk) (b : List ℕ) (h : Sound s room w b) where
-  module _ (y : w .begun ≡ true) where
-    abbrev d : ℕ
-    d = stillOpen (w .left) (w .depth)
+module _ (most : ℕ) (s : List ℕ) (room : ℕ) (w : TrieWalk) (b : List ℕ) (h : Sound most s room w b) where
+  abbrev d : ℕ
+  d = stillOpen (w .left) (w .depth)
 
-    count : openNodes (w .begun) (w .depth) ≡ w .depth
-    count = ap (λ (c : Bool). openNodes c (w .depth)) y
+  pub sound-closed : Sound most s room (closed w) b
+  sound-closed =
+      let l = still-at-most (w .left) (w .depth) in
+      record {
+        long = h .long;
+        going = h .going;
+        fit = record {
+          few = omega (arith, l, h .fit .few);
+          places = λ i k. h .fit .places i (omega (arith, l));
+          lengths = λ i k. h .fit .lengths i (omega (arith, l));
+        };
+      }
 
-    count-closed : openNodes (w .begun) (stillOpen (w .left) (w .depth)) ≡ stillOpen (w .left) (w .depth)
-    count-closed = ap (λ (c : Bool). openNodes c (stillOpen (w .left) (w .depth))) y
+  module _ (z : Unfinished w) (e : Edge) (n : Node) (g : childOf s (length b) (closed w) ≡ Found e n) (l : stillOpen (w .left) (w .depth) < most) where
+    place-in : n .place ≤ length s
+    place-in = counted s w b e n g .inside
 
-    pub sound-closed : Sound s room (closed w) b
-    sound-closed =
-        let l = still-at-most (w .left) (w .depth) in
+    next-in : e .next ≤ length s
+    next-in = within s w b e n g .next
+
+    name-fits : childName (closed w) e ≤ room
+    name-fits = omega (arith, read s w b e n g .fits, h .long)
+
+    at-or-below : (P : ℕ → Type 0) → P d → ((i : ℕ) → i < d → P i) → (i : ℕ) → i < d + 1 → P i
+    at-or-below P p q i k =
+        elim (decLt i d) [
+          | yes m ↦ q i m
+          | no m ↦ let j : i ≡ d = omega arith in subst P (sym j) p
+        ]
+
+    sound-child : Sound most s room (childOpened (closed w) e n) (edgePut s (closed w) e b)
+    sound-child =
+        let f = sound-closed .fit in
         record {
-          long = h .long;
+          long = buffer-long s w b e n g ∙ h .long;
           going = h .going;
           fit = record {
-            few = omega (arith, count, count-closed, l, h .fit .few);
-            places = λ i k. h .fit .places i (omega (arith, count, count-closed, l));
-            lengths = λ i k. h .fit .lengths i (omega (arith, count, count-closed, l));
+            few = omega arith;
+            places = at-or-below (λ i. getD (set (set (w .places) (d - 1) (e .next)) d (n .place)) i 0 ≤ length s)
+                (set-new (set (w .places) (d - 1) (e .next)) d (n .place) (length s) place-in)
+                (λ i k. set-old (set (w .places) (d - 1) (e .next)) d (n .place) (length s) place-in i
+                (set-old (w .places) (d - 1) (e .next) (length s) next-in i (f .places i k)));
+            lengths = at-or-below (λ i. getD (set (w .lengths) d (childName (closed w) e)) i 0 ≤ room)
+                (set-new (w .lengths) d (childName (closed w) e) room name-fits)
+                (λ i k. set-old (w .lengths) d (childName (closed w) e) room name-fits i (f .lengths i k));
           };
         }
 
-    module _ (z : stillOpen (w .left) (w .depth) ≡ 0 → ⊥) (e : Edge) (n : Node) (g : childOf s (length b) (closed w) ≡ Found e n) (l : stillOpen (w .left) (w .depth) < most) where
-      place-in : n .place ≤ length s
-      place-in = counted s w b e n g .inside
-
-      next-in : e .next ≤ length s
-      next-in = within s w b e n g .next
-
-      name-fits : childName (closed w) e ≤ room
-      name-fits = omega (arith, read s w b e n g .fits, h .long)
-
-      at-or-below : (P : ℕ → Type 0) → P d → ((i : ℕ) → i < d → P i) → (i : ℕ) → i < d + 1 → P i
-      at-or-below P p q i k =
-          elim (decLt i d) [
-            | yes m ↦ q i m
-            | no m ↦ let j : i ≡ d = omega arith in subst P (sym j) p
-          ]
-
-      sound-child : Sound s room (childOpened (closed w) e n) (edgePut s (closed w) e b)
-      sound-child =
-          let f = sound-closed .fit in
-          record {
-            long = buffer-long s w b e n g ∙ h .long;
-            going = h .going;
-            fit = record {
-              few = omega arith;
-              places = at-or-below (λ i. getD (set (set (w .places) (d - 1) (e .next)) d (n .place)) i 0 ≤ length s)
-                  (set-new (set (w .places) (d - 1) (e .next)) d (n .place) (length s) place-in)
-                  (λ i k. set-old (set (w .places) (d - 1) (e .next)) d (n .place) (length s) place-in i
-                  (set-old (w .places) (d - 1) (e .next) (length s) next-in i (f .places i (omega (arith, count-closed)))));
-              lengths = at-or-below (λ i. getD (set (w .lengths) d (childName (closed w) e)) i 0 ≤ room)
-                  (set-new (w .lengths) d (childName (closed w) e) room name-fits)
-                  (λ i k. set-old (w .lengths) d (childName (closed w) e) room name-fits i (f .lengths i (omega (arith, count-closed))));
-            };
-          }
-
-  sound-root : (n : Node) → nodeAt s 0 ≡ node.Found n → Sound s room (opened 0 (n .place) 0 (n .children) 0 w) b
-  sound-root n e =
+  sound-root : (n : Node) → nodeAt s 0 ≡ node.Found n → 0 < most → Sound most s room (rooted w n) b
+  sound-root n e l =
       record {
         long = h .long;
         going = h .going;
@@ -182,17 +177,18 @@ module _ (s : List ℕ) (room : ℕ) (w : TrieWalk) (b : List ℕ) (h : Sound s 
         };
       }
 
-  pub sound-next : IfReached (Sound s room) (next s w b)
+  pub sound-next : IfReached (Sound most s room) (next most s w b)
   sound-next =
-      next-by s w b (IfReached (Sound s room))
+      next-by most s w b (IfReached (Sound most s room))
       (record {
         done = λ y z. tt;
-        bad = λ y z x f. tt;
-        full = λ y z e n f l. tt;
+        bad = λ z x f. tt;
+        full = λ z e n f l. tt;
         child = sound-child;
         none = λ y e. tt;
-        root = λ y n e. sound-root n e;
+        shut = λ y n e l. tt;
+        root = λ y n e l. sound-root n e l;
       })
 
-  pub sound-ranged : InRange s (length b) w
-  sound-ranged = subst (λ (m : ℕ). InRange s m w) (sym (h .long)) (ranged s room w (h .fit))
+  pub sound-ranged : InRange most s (length b) w
+  sound-ranged = subst (λ (m : ℕ). InRange most s m w) (sym (h .long)) (ranged most s room w (h .fit))

@@ -1,7 +1,5 @@
-pub mod Nodes
 pub mod Searches
 pub mod Puts
-pub mod Exports
 pub mod Children
 pub mod Visits
 pub mod Calls

@@ -9,17 +9,18 @@ use native.Mathlib.Omega.{arith}
 use lib.ListN.{length, take}
 use Rattle.trie.proofs.Course.{over, stopped, reached, next, next-closed, Course, ends, refuses, waits, limits, exports, visits, InRange, call-course, halts, course-keeps}
 use Rattle.trie.proofs.Fits.{fit, Sound, sound-closed, sound-next, sound-ranged}
-use Rattle.trie.specs.Call.{Answer, export, more, end, refused, Reply, call}
-use Rattle.trie.specs.Joined.{Ending, atEnd, atRefusal, Joined, joined, join, calls, withSymbol}
+use Rattle.trie.specs.Call.{Answer, export, more, end, refused, Outcome, call}
+use Rattle.nodes.specs.Symbols.{Ending, atEnd, atRefusal, withSymbol}
+use Rattle.trie.specs.Joined.{Joined, joined, join, calls}
 use Rattle.trie.specs.declared.TrieWalk.{TrieWalk}
-use Rattle.trie.specs.declared.node.Terminal.{Terminal}
-use Rattle.trie.specs.declared.node.Terminal.the-variants as terminal
+use Rattle.nodes.specs.declared.node.Terminal.{Terminal}
+use Rattle.nodes.specs.declared.node.Terminal.the-variants as terminal
 
-module _ (s : List ℕ) where
+module _ (most : ℕ) (s : List ℕ) where
   pub data Says : TrieWalk → List ℕ → Joined → Type 0 where
-    says-over : {w : TrieWalk} {b : List ℕ} → next s w b ≡ over → Says w b (joined [] 0 (some atEnd))
-    says-stopped : {w : TrieWalk} {b : List ℕ} {x : ℕ} → next s w b ≡ stopped x → Says w b (joined [] 0 (some (atRefusal x)))
-    says-reached : {w : TrieWalk} {b : List ℕ} {len : ℕ} {t : Terminal} {v : TrieWalk} {c : List ℕ} {j : Joined} → next s w b ≡ reached len t v c → Says v c j
+    says-over : {w : TrieWalk} {b : List ℕ} → next most s w b ≡ over → Says w b (joined [] 0 (some atEnd))
+    says-stopped : {w : TrieWalk} {b : List ℕ} {x : ℕ} → next most s w b ≡ stopped x → Says w b (joined [] 0 (some (atRefusal x)))
+    says-reached : {w : TrieWalk} {b : List ℕ} {len : ℕ} {t : Terminal} {v : TrieWalk} {c : List ℕ} {j : Joined} → next most s w b ≡ reached len t v c → Says v c j
         → Says w b (joined (withSymbol (take len c) t (j .exports)) (1 + j .visits) (j .ending))
 
   pub says-one : {w : TrieWalk} {b : List ℕ} {i j : Joined} → Says w b i → Says w b j → i ≡ j
@@ -39,7 +40,7 @@ module _ (s : List ℕ) where
       let r = says-one p (subst (λ (k : TrieWalk). Says k c j) z (subst (λ (k : List ℕ). Says w k j) a q)) in
       λ i. joined (withSymbol (take (sym x i) (sym a i)) (sym y i) (r i .exports)) (1 + r i .visits) (r i .ending)
 
-  says-as : {v w : TrieWalk} {b : List ℕ} {j : Joined} → next s v b ≡ next s w b → Says v b j → Says w b j
+  says-as : {v w : TrieWalk} {b : List ℕ} {j : Joined} → next most s v b ≡ next most s w b → Says v b j → Says w b j
   says-as q (says-over e) = says-over (sym q ∙ e)
   says-as q (says-stopped e) = says-stopped (sym q ∙ e)
   says-as q (says-reached e p) = says-reached (sym q ∙ e) p
@@ -47,18 +48,18 @@ module _ (s : List ℕ) where
   -- ---- a call, and what is said after it
 
   -- n nodes were visited before the course
-  pub record Joins (n : ℕ) (w : TrieWalk) (b : List ℕ) (p : Reply × List ℕ) (j : Joined) : Type 0 where
+  pub record Joins (n : ℕ) (w : TrieWalk) (b : List ℕ) (p : Outcome) (j : Joined) : Type 0 where
     pub said : Joined
     pub says : Says w b said
-    pub same : join (p .0 .visits) (p .1) j (p .0 .answer) ≡ joined (said .exports) (n + said .visits) (said .ending)
+    pub same : join (p .reply .visits) (p .buffer) j (p .reply .answer) ≡ joined (said .exports) (n + said .visits) (said .ending)
 
-  pub course-joins : {given : TrieWalk} {k n : ℕ} {w : TrieWalk} {b : List ℕ} {p : Reply × List ℕ} (j : Joined) → Course s given k n w b p
-      → (halts (p .0 .answer) ≡ false → Says (p .0 .walk) (p .1) j) → Joins n w b p j
+  pub course-joins : {given : TrieWalk} {k n : ℕ} {w : TrieWalk} {b : List ℕ} {p : Outcome} (j : Joined) → Course most s given k n w b p
+      → (halts (p .reply .answer) ≡ false → Says (p .reply .walk) (p .buffer) j) → Joins n w b p j
   course-joins {n = n} j (ends e z) h = let q : n ≡ n + 0 = omega arith in record { said = _; says = says-over e; same = λ i. joined [] (q i) (some atEnd) }
-  course-joins {n = n} j (refuses {x = x} e) h =
+  course-joins {n = n} j (refuses {x = x} e d) h =
       let q : n ≡ n + 0 = omega arith in record { said = _; says = says-stopped e; same = λ i. joined [] (q i) (some (atRefusal x)) }
   course-joins j waits h = record { said = j; says = h refl; same = refl }
-  course-joins j (limits {w = w} {b = b} y) h = record { said = j; says = says-as (next-closed s w b y) (h refl); same = refl }
+  course-joins j (limits {w = w} {b = b} y) h = record { said = j; says = says-as (next-closed most s w b y) (h refl); same = refl }
   course-joins {n = n} j (exports {len = len} {c = c} {x = x} e) h =
       let q : n + 1 + j .visits ≡ n + (1 + j .visits) = omega arith in
       record {
@@ -80,21 +81,21 @@ module _ (s : List ℕ) where
   ended-by n b rest end z q = absurd (true≢false z)
   ended-by n b rest (refused number) z q = absurd (true≢false z)
 
-  pub calls-say : (room : ℕ) (ks : List ℕ) (w : TrieWalk) (b : List ℕ) → Sound s room w b → {e : Ending} → calls s w b ks .ending ≡ some e → Says w b (calls s w b ks)
+  pub calls-say : (room : ℕ) (ks : List ℕ) (w : TrieWalk) (b : List ℕ) → Sound most s room w b → {e : Ending} → calls most s w b ks .ending ≡ some e → Says w b (calls most s w b ks)
   unfolding calls
   calls-say room [] w b h q = let x : _≡_ {A = ℕ} 0 1 = cc in absurd (omega arith)
   calls-say room (k ∷ ks) w b h q =
-      let p = call s k w b in
-      let rest = calls s (p .0 .walk) (p .1) ks in
-      let c = call-course s k w b (sound-ranged s room w b h) (h .going) in
-      let t = course-joins rest c (λ z. calls-say room ks (p .0 .walk) (p .1) (course-keeps s (Sound s room) (sound-next s room) (sound-closed s room) c h z)
-      (ended-by (p .0 .visits) (p .1) rest (p .0 .answer) z q)) in
+      let p = call most s k w b in
+      let rest = calls most s (p .reply .walk) (p .buffer) ks in
+      let c = call-course most s k w b (sound-ranged most s room w b h) (h .going) in
+      let t = course-joins rest c (λ z. calls-say room ks (p .reply .walk) (p .buffer) (course-keeps most s (Sound most s room) (sound-next most s room) (λ w b h z. sound-closed most s room w b h) c h z)
+      (ended-by (p .reply .visits) (p .buffer) rest (p .reply .answer) z q)) in
       let v : 0 + t .said .visits ≡ t .said .visits = omega arith in
       subst (Says w b) (sym (t .same ∙ (λ i. joined (t .said .exports) (v i) (t .said .ending)))) (t .says)
 
   -- the exports joined over calls do not depend on the limits
-  pub alike : (w : TrieWalk) (b : List ℕ) → InRange s (length b) w → w .ended ≡ false → (ks ls : List ℕ) {e f : Ending}
-      → calls s w b ks .ending ≡ some e → calls s w b ls .ending ≡ some f → calls s w b ks ≡ calls s w b ls
+  pub alike : (w : TrieWalk) (b : List ℕ) → InRange most s (length b) w → w .ended ≡ false → (ks ls : List ℕ) {e f : Ending}
+      → calls most s w b ks .ending ≡ some e → calls most s w b ls .ending ≡ some f → calls most s w b ks ≡ calls most s w b ls
   alike w b r z ks ls p q =
-      let h : Sound s (length b) w b = record { long = refl; going = z; fit = fit s (length b) w r } in
+      let h : Sound most s (length b) w b = record { long = refl; going = z; fit = fit most s (length b) w r } in
       says-one (calls-say (length b) ks w b h p) (calls-say (length b) ls w b h q)

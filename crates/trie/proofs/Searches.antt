@@ -8,7 +8,8 @@ use native.Mathlib.Omega.{arith}
 use borrow.Author.Tests.{eq-eqb, ne-eqb, lt-ltb, le-ltb}
 use lib.Dec.{eqb}
 use lib.ListN.{getD}
-use Rattle.trie.specs.Frames.{topDown, any, oneAbove, outOfRange, stillOpen}
+use Rattle.nodes.specs.Child.{any}
+use Rattle.trie.specs.Frames.{topDown, oneAbove, outOfRange, stillOpen}
 
 top-first : (xs : List ℕ) (d : ℕ) → 0 < d → topDown xs d ≡ getD xs (d - 1) 0 ∷ topDown xs (d - 1)
 unfolding topDown
@@ -78,16 +79,16 @@ pub ruleset closing = (closes, stays, closes-on, all-closed)
 -- ---- whether a state is out of range
 
 module _ (places lengths : List ℕ) (d bytes room : ℕ) where
-  pub too-many : 256 < d → true ≡ outOfRange places lengths d bytes room
+  pub too-many : 256 < d → true ≡ outOfRange 256 places lengths d bytes room
   unfolding outOfRange
   too-many h = rw (lt-ltb 256 d h)
 
   module _ (h : d ≤ 256) {r : Bool} (e : r ≡ oneAbove bytes (topDown places d)) where
-    pub place-out : r ≡ true → true ≡ outOfRange places lengths d bytes room
+    pub place-out : r ≡ true → true ≡ outOfRange 256 places lengths d bytes room
     unfolding outOfRange
     place-out f = rw (le-ltb 256 d h, sym e ∙ f)
 
-    pub name-out : r ≡ false → {q : Bool} → q ≡ oneAbove room (topDown lengths d) → q ≡ outOfRange places lengths d bytes room
+    pub name-out : r ≡ false → {q : Bool} → q ≡ oneAbove room (topDown lengths d) → q ≡ outOfRange 256 places lengths d bytes room
     unfolding outOfRange
     name-out f g = rw (le-ltb 256 d h, sym e ∙ f) g
 

@@ -6,26 +6,26 @@ use mathlib.Core.List.{List}
 use native.Mathlib.Omega.{arith}
 use lib.ListN.{length, getD, set, replicate, length-set}
 use Rattle.numbers.proofs.little_endian.Fields.{Bytes}
-use Rattle.trie.proofs.Children.{TerminalIn, node-in}
+use Rattle.nodes.proofs.Inside.{TerminalIn, node-in}
 use Rattle.trie.proofs.Course.{Next, over, stopped, reached, next, next-by, Course, ends, refuses, waits, limits, exports, visits, call-by}
-use Rattle.trie.proofs.Exports.{ExportIn}
+use Rattle.nodes.proofs.Exports.{ExportIn}
 use Rattle.trie.proofs.Fits.{set-old, read, within, counted, buffer-long}
 use Rattle.trie.proofs.Visits.{still-at-most}
-use Rattle.trie.specs.Call.{atStart, closed, onTop, opened, childOf, childName, childOpened, edgePut, Answer, export, more, end, refused, Reply, call}
-use Rattle.trie.specs.ExportsTrie.{nodeAt}
-use Rattle.trie.specs.Frames.{most, stillOpen}
+use Rattle.trie.specs.Call.{atStart, closed, onTop, rooted, childOf, childName, childOpened, edgePut, Answer, export, more, end, refused, Outcome, call}
+use Rattle.nodes.specs.ExportsTrie.{nodeAt}
+use Rattle.trie.specs.Frames.{stillOpen}
 use Rattle.trie.specs.declared.TrieWalk.{TrieWalk}
-use Rattle.trie.specs.declared.child.Child.the-variants.{Found}
-use Rattle.trie.specs.declared.node.Edge.{Edge}
-use Rattle.trie.specs.declared.node.Node.{Node}
-use Rattle.trie.specs.declared.node.NodeRead.the-variants as node
-use Rattle.trie.specs.declared.node.Terminal.{Terminal}
+use Rattle.nodes.specs.declared.child.Child.the-variants.{Found}
+use Rattle.nodes.specs.declared.node.Edge.{Edge}
+use Rattle.nodes.specs.declared.node.Node.{Node}
+use Rattle.nodes.specs.declared.node.NodeRead.the-variants as node
+use Rattle.nodes.specs.declared.node.Terminal.{Terminal}
 
 -- ---- what the types hold
 
 -- an array, by the largest value of its elements
 pub record Array (largest : ℕ) (xs : List ℕ) : Type 0 where
-  pub long : length xs ≡ most
+  pub long : length xs ≡ 256
   pub each : (i : ℕ) → getD xs i 0 ≤ largest
 
 -- places, offsets, children left, lengths and depth
@@ -52,10 +52,10 @@ zeros zero i = omega arith
 zeros (suc n) zero = omega arith
 zeros (suc n) (suc i) = zeros n i
 
-blank : (largest : ℕ) → Array largest (replicate most 0)
-blank largest = record { long = refl; each = λ i. omega (arith, zeros most i) }
+blank : (largest : ℕ) → Array largest (replicate 256 0)
+blank largest = record { long = refl; each = λ i. omega (arith, zeros 256 i) }
 
-pub typed-start : Typed atStart
+pub typed-start : Typed (atStart 256)
 typed-start =
     record { places = blank (2 ^ 64 - 1); offsets = blank (2 ^ 64 - 1); left = blank (2 ^ 8 - 1); lengths = blank (2 ^ 64 - 1); depth = omega arith }
 
@@ -78,11 +78,11 @@ AnswerIn bytes room end = Unit {0}
 AnswerIn bytes room (refused number) = Unit {0}
 
 -- a state, at most so many visits, an answer, and the buffer as long as it was
-pub record Back (bytes room limit : ℕ) (p : Reply × List ℕ) : Type 0 where
-  pub typed : Typed (p .0 .walk)
-  pub visits : p .0 .visits ≤ limit
-  pub answer : AnswerIn bytes room (p .0 .answer)
-  pub long : length (p .1) ≡ room
+pub record Back (bytes room limit : ℕ) (p : Outcome) : Type 0 where
+  pub typed : Typed (p .reply .walk)
+  pub visits : p .reply .visits ≤ limit
+  pub answer : AnswerIn bytes room (p .reply .answer)
+  pub long : length (p .buffer) ≡ room
 
 module _ (s : List ℕ) (room : ℕ) (lent : Lent s room) where
   -- a node that is reached, with the length of its name in the buffer
@@ -98,7 +98,7 @@ module _ (s : List ℕ) (room : ℕ) (lent : Lent s room) where
   IfHeld (reached len t v c) = Held len t v c
 
   module _ (w : TrieWalk) (b : List ℕ) (t : Typed w) (l : length b ≡ room) where
-    held-child : (e : Edge) (n : Node) → childOf s (length b) (closed w) ≡ Found e n → stillOpen (w .left) (w .depth) < most
+    held-child : (e : Edge) (n : Node) → childOf s (length b) (closed w) ≡ Found e n → stillOpen (w .left) (w .depth) < 256
         → Held (childName (closed w) e) (n .terminal) (childOpened (closed w) e n) (edgePut s (closed w) e b)
     held-child e n f m =
         let d : ℕ = stillOpen (w .left) (w .depth) in
@@ -120,7 +120,7 @@ module _ (s : List ℕ) (room : ℕ) (lent : Lent s room) where
           terminal = j .terminal;
         }
 
-    held-root : (n : Node) → nodeAt s 0 ≡ node.Found n → Held 0 (n .terminal) (opened 0 (n .place) 0 (n .children) 0 w) b
+    held-root : (n : Node) → nodeAt s 0 ≡ node.Found n → Held 0 (n .terminal) (rooted w n) b
     held-root n f =
         let j = node-in s 0 f in
         record {
@@ -136,23 +136,24 @@ module _ (s : List ℕ) (room : ℕ) (lent : Lent s room) where
           terminal = j .terminal;
         }
 
-    held-next : IfHeld (next s w b)
+    held-next : IfHeld (next 256 s w b)
     held-next =
-        next-by s w b IfHeld
+        next-by 256 s w b IfHeld
         (record {
           done = λ y z. tt;
-          bad = λ y z x f. tt;
-          full = λ y z e n f m. tt;
-          child = λ y z. held-child;
+          bad = λ z x f. tt;
+          full = λ z e n f m. tt;
+          child = λ z. held-child;
           none = λ y e. tt;
-          root = λ y. held-root;
+          shut = λ y n e l. tt;
+          root = λ y n e l. held-root n e;
         })
 
   -- ---- a course
 
-  course-back : {given : TrieWalk} {k n : ℕ} {w : TrieWalk} {b : List ℕ} {p : Reply × List ℕ} → Typed given → Course s given k n w b p → Typed w → length b ≡ room → Back (length s) room (n + k) p
+  course-back : {given : TrieWalk} {k n : ℕ} {w : TrieWalk} {b : List ℕ} {p : Outcome} → Typed given → Course 256 s given k n w b p → Typed w → length b ≡ room → Back (length s) room (n + k) p
   course-back g (ends {w = w} e z) t l = record { typed = typed-closed w t; visits = omega arith; answer = tt; long = l }
-  course-back g (refuses e) t l = record { typed = g; visits = omega arith; answer = tt; long = l }
+  course-back g (refuses e d) t l = record { typed = g; visits = omega arith; answer = tt; long = l }
   course-back g waits t l = record { typed = t; visits = omega arith; answer = tt; long = l }
   course-back g (limits {w = w} y) t l = record { typed = typed-closed w t; visits = omega arith; answer = tt; long = l }
   course-back g (exports {w = w} {b = b} e) t l =
@@ -166,10 +167,10 @@ module _ (s : List ℕ) (room : ℕ) (lent : Lent s room) where
 -- ---- a call
 
 -- from any state whose fields are such as their types have, in range or not
-pub typed-call : (s : List ℕ) (limit : ℕ) (w : TrieWalk) (b : List ℕ) → Lent s (length b) → Typed w → Back (length s) (length b) limit (call s limit w b)
+pub typed-call : (s : List ℕ) (limit : ℕ) (w : TrieWalk) (b : List ℕ) → Lent s (length b) → Typed w → Back (length s) (length b) limit (call 256 s limit w b)
 typed-call s limit w b lent t =
-    call-by s limit w b (Back (length s) (length b) limit)
+    call-by 256 s limit w b (Back (length s) (length b) limit)
     (λ out. record { typed = t; visits = omega arith; answer = tt; long = refl })
     (λ range e. record { typed = t; visits = omega arith; answer = tt; long = refl })
     (λ range e c. let z : 0 + limit ≡ limit = omega arith in
-    subst (λ (k : ℕ). Back (length s) (length b) k (call s limit w b)) z (course-back s (length b) lent t c t refl))
+    subst (λ (k : ℕ). Back (length s) (length b) k (call 256 s limit w b)) z (course-back s (length b) lent t c t refl))

@@ -3,14 +3,14 @@ use mathlib.Core.Path.{_≡_, refl, ap}
 use Rattle.refusal.proofs.Numbered.{refusalOf, refusal-back}
 use Rattle.refusal.proofs.Unique.{one-each}
 use Rattle.trie.specs.Call.{Answer, export, more, end, refused, Reply}
-use Rattle.trie.specs.Exported.{Target, regular, reexport, stubAndResolver, Exported, targetTold}
+use Rattle.nodes.specs.Exported.{Target, regular, reexport, stubAndResolver, Exported, targetTold}
 use Rattle.trie.specs.Told.{answerTold, told}
 use Rattle.trie.specs.declared.TrieAnswer.{TrieAnswer}
 use Rattle.trie.specs.declared.TrieAnswer.the-variants as answer
 use Rattle.trie.specs.declared.TrieStep.{TrieStep}
-use Rattle.trie.specs.declared.export.Export.{Export}
-use Rattle.trie.specs.declared.export.ExportData.{ExportData}
-use Rattle.trie.specs.declared.export.ExportData.the-variants.{Regular, Reexport, StubAndResolver}
+use Rattle.nodes.specs.declared.export.Export.{Export}
+use Rattle.nodes.specs.declared.export.ExportData.{ExportData}
+use Rattle.nodes.specs.declared.export.ExportData.the-variants.{Regular, Reexport, StubAndResolver}
 
 abbrev targetOf : Target → ExportData
 targetOf (regular address) = Regular address

@@ -1,39 +1,38 @@
 -- One call of the walk: what it answers, the state that it hands back, how many nodes it visited, and what it leaves in the name buffer;
--- for any state. Once the walk has begun, the first `depth` elements of the state's arrays are those of the open nodes, the one on top last.
+-- for any state. The first `depth` elements of the state's arrays are those of the open nodes, the one on top last. A walk that has no
+-- node open and has not ended has not begun. `most` nodes may be open at once.
 use Prim.Native.Nat.{ℕ, zero, suc, _+_, _-_}
 use mathlib.Core.Bool.{true, false, cond}
 use mathlib.Core.List.{List, _++_}
 use lib.Dec.{leb, eqb}
 use lib.ListN.{length, getD, set, take, drop, replicate}
+use Rattle.nodes.specs.Exported.{Exported, exportTold}
+use Rattle.nodes.specs.ExportsTrie.{nodeAt}
+use Rattle.nodes.specs.declared.child.Child.{Child}
+use Rattle.nodes.specs.declared.child.Child.the-variants.{Found, Refused}
+use Rattle.nodes.specs.declared.node.Edge.{Edge}
+use Rattle.nodes.specs.declared.node.Node.{Node}
+use Rattle.nodes.specs.declared.node.NodeRead.{NodeRead}
+use Rattle.nodes.specs.declared.node.NodeRead.the-variants as node
+use Rattle.nodes.specs.declared.node.Terminal.{Terminal}
+use Rattle.nodes.specs.declared.node.Terminal.the-variants as terminal
 use Rattle.numbers.specs.Parts.{partOf}
 use Rattle.refusal.specs.Numbers.{numberOf}
-use Rattle.refusal.specs.declared.Refusal.{Refusal}
 use Rattle.refusal.specs.declared.Refusal.the-variants.{FaultyNode, TooManyOpenNodes, StateOutOfRange}
-use Rattle.trie.specs.Child.{childAt}
-use Rattle.trie.specs.Exported.{Exported, exportTold}
-use Rattle.trie.specs.ExportsTrie.{nodeAt}
-use Rattle.trie.specs.Frames.{most, openNodes, topDown, outOfRange, stillOpen}
+use Rattle.trie.specs.Frames.{topDown, outOfRange, stillOpen}
+use Rattle.trie.specs.NextChild.{childAt}
 use Rattle.trie.specs.declared.TrieWalk.{TrieWalk}
-use Rattle.trie.specs.declared.child.Child.{Child}
-use Rattle.trie.specs.declared.child.Child.the-variants.{Found, Refused}
-use Rattle.trie.specs.declared.node.Edge.{Edge}
-use Rattle.trie.specs.declared.node.Node.{Node}
-use Rattle.trie.specs.declared.node.NodeRead.{NodeRead}
-use Rattle.trie.specs.declared.node.NodeRead.the-variants as node
-use Rattle.trie.specs.declared.node.Terminal.{Terminal}
-use Rattle.trie.specs.declared.node.Terminal.the-variants as terminal
 
 -- ---- the state
 
-abbrev pub atStart : TrieWalk
-atStart =
+abbrev pub atStart : (most : ℕ) → TrieWalk
+atStart most =
     record {
       places = replicate most 0;
       offsets = replicate most 0;
       left = replicate most 0;
       lengths = replicate most 0;
       depth = 0;
-      begun = false;
       ended = false;
     }
 
@@ -48,7 +47,6 @@ atDepth d w =
       left = w .left;
       lengths = w .lengths;
       depth = d;
-      begun = w .begun;
       ended = w .ended;
     }
 
@@ -61,7 +59,6 @@ marked w =
       left = w .left;
       lengths = w .lengths;
       depth = w .depth;
-      begun = w .begun;
       ended = true;
     }
 
@@ -82,7 +79,6 @@ passed next w =
       left = set (w .left) (w .depth - 1) (onTop w (w .left) - 1);
       lengths = w .lengths;
       depth = w .depth;
-      begun = w .begun;
       ended = w .ended;
     }
 
@@ -95,9 +91,12 @@ opened d place offset children len w =
       left = set (w .left) d children;
       lengths = set (w .lengths) d len;
       depth = d + 1;
-      begun = true;
       ended = w .ended;
     }
+
+-- the root is opened
+abbrev pub rooted : TrieWalk → Node → TrieWalk
+rooted w n = opened 0 (n .place) 0 (n .children) 0 w
 
 -- bytes are put into the buffer at a place; none where they do not fit (an edge does: 18 is tested before)
 unfoldable pub put : (bytes buffer : List ℕ) (at : ℕ) → List ℕ
@@ -124,7 +123,7 @@ childOpened w e n =
 abbrev pub edgePut : List ℕ → TrieWalk → Edge → (buffer : List ℕ) → List ℕ
 edgePut s w e b = put (partOf s (e .place) (e .length)) b (onTop w (w .lengths))
 
--- ---- a call
+-- ---- what a call comes to
 
 pub data Answer : Type 0 where
   export : (len : ℕ) → Exported → Answer  -- its name is the first `len` bytes of the buffer
@@ -132,55 +131,75 @@ pub data Answer : Type 0 where
   end : Answer
   refused : (number : ℕ) → Answer
 
+-- what it answers, the state that it hands back, and how many nodes it visited
 pub record Reply : Type 0 where
   pub answer : Answer
   pub walk : TrieWalk
   pub visits : ℕ
 
--- with the buffer as it is left
-abbrev pub replied : Answer → TrieWalk → (visits : ℕ) (buffer : List ℕ) → Reply × List ℕ
-replied answer w n b = (record { answer = answer; walk = w; visits = n }, b)
+-- beside the reply the buffer as it is left, and the walk as it was reached, which a refusal does not hand back
+pub record Outcome : Type 0 where
+  pub reply : Reply
+  pub buffer : List ℕ
+  pub reached : TrieWalk
+
+-- what is seen of it
+abbrev pub seen : Outcome → Reply × List ℕ
+seen o = (o .reply, o .buffer)
+
+-- the walk that was reached is handed back
+abbrev pub replied : Answer → TrieWalk → (visits : ℕ) (buffer : List ℕ) → Outcome
+replied answer w n b = record { reply = record { answer = answer; walk = w; visits = n }; buffer = b; reached = w }
 
 -- any refusal but 19 hands back the state as it was given, marked as ended; visits and buffer are those before it
-abbrev pub refusing : Refusal → (given : TrieWalk) (visits : ℕ) (buffer : List ℕ) → Reply × List ℕ
-refusing e given n b = replied (refused (numberOf e)) (marked given) n b
+abbrev pub refusing : (number : ℕ) (given reached : TrieWalk) (visits : ℕ) (buffer : List ℕ) → Outcome
+refusing number given w n b =
+    record { reply = record { answer = refused number; walk = marked given; visits = n }; buffer = b; reached = w }
+
+-- ---- a call
 
 -- a node is visited, the nth, whose name has this length: an export is answered, from any other node the call goes on
-unfoldable pub visited : (on : (n : ℕ) → TrieWalk → List ℕ → Reply × List ℕ) (len n : ℕ) → TrieWalk → List ℕ → Terminal → Reply × List ℕ
+unfoldable pub visited : (on : (n : ℕ) → TrieWalk → List ℕ → Outcome) (len n : ℕ) → TrieWalk → List ℕ → Terminal → Outcome
 visited on len n w b terminal.NoExport = on n w b
 visited on len n w b (terminal.Export x) = replied (export len (exportTold x)) w n b
 
--- the next child is visited, where it may be opened; n nodes were visited before
-unfoldable pub visitChild : List ℕ → (on : (n : ℕ) → TrieWalk → List ℕ → Reply × List ℕ) (given : TrieWalk) (n : ℕ) → TrieWalk → List ℕ → Child → Reply × List ℕ
-visitChild s on given n w b (Refused e) = refusing e given n b
-visitChild s on given n w b (Found e node) =
-    cond (leb most (w .depth)) (refusing TooManyOpenNodes given n b)
-    (visited on (childName w e) (n + 1) (childOpened w e node) (edgePut s w e b) (node .terminal))
+module _ (most : ℕ) (s : List ℕ) where
+  -- a node is opened above d others, where one more may be; n nodes were visited before
+  abbrev pub opening : (d : ℕ) (given : TrieWalk) (n : ℕ) → TrieWalk → List ℕ → (visit : Outcome) → Outcome
+  opening d given n w b visit = cond (leb most d) (refusing (numberOf TooManyOpenNodes) given w n b) visit
 
--- n nodes are visited, and k more may be. Finished nodes are closed before the limit is tested
-unfoldable pub onward : List ℕ → (given : TrieWalk) (k n : ℕ) → TrieWalk → List ℕ → Reply × List ℕ
-onward s given zero n w b =
-    cond (eqb (closed w .depth) 0) (replied end (marked (closed w)) n b)
-    (replied more (closed w) n b)
-onward s given (suc k) n w b =
-    cond (eqb (closed w .depth) 0) (replied end (marked (closed w)) n b)
-    (visitChild s (onward s given k) given n (closed w) b (childOf s (length b) (closed w)))
+  -- the next child is visited
+  unfoldable pub visitChild : (on : (n : ℕ) → TrieWalk → List ℕ → Outcome) (given : TrieWalk) (n : ℕ) → TrieWalk → List ℕ → Child → Outcome
+  visitChild on given n w b (Refused e) = refusing (numberOf e) given w n b
+  visitChild on given n w b (Found e node) =
+      opening (w .depth) given n w b
+      (visited on (childName w e) (n + 1) (childOpened w e node) (edgePut s w e b) (node .terminal))
 
--- the root, and k nodes more may be visited
-unfoldable pub visitRoot : List ℕ → (given : TrieWalk) (k : ℕ) → List ℕ → NodeRead → Reply × List ℕ
-visitRoot s given k b node.Fault = refusing FaultyNode given 0 b
-visitRoot s given k b (node.Found n) =
-    visited (onward s given k) 0 1 (opened 0 (n .place) 0 (n .children) 0 given) b (n .terminal)
+  -- n nodes are visited, and k more may be. Finished nodes are closed before the limit is tested
+  unfoldable pub onward : (given : TrieWalk) (k n : ℕ) → TrieWalk → List ℕ → Outcome
+  onward given zero n w b =
+      cond (eqb (closed w .depth) 0) (replied end (marked (closed w)) n b)
+      (replied more (closed w) n b)
+  onward given (suc k) n w b =
+      cond (eqb (closed w .depth) 0) (replied end (marked (closed w)) n b)
+      (visitChild (onward given k) given n (closed w) b (childOf s (length b) (closed w)))
 
--- of a walk that has not ended: limit 0 says More and changes nothing
-unfoldable pub goOn : List ℕ → (limit : ℕ) → TrieWalk → List ℕ → Reply × List ℕ
-goOn s zero w b = replied more w 0 b
-goOn s (suc k) w b = cond (w .begun) (onward s w (suc k) 0 w b) (visitRoot s w k b (nodeAt s 0))
+  -- the root, and k nodes more may be visited
+  unfoldable pub visitRoot : (given : TrieWalk) (k : ℕ) → List ℕ → NodeRead → Outcome
+  visitRoot given k b node.Fault = refusing (numberOf FaultyNode) given given 0 b
+  visitRoot given k b (node.Found n) =
+      opening 0 given 0 given b
+      (visited (onward given k) 0 1 (rooted given n) b (n .terminal))
 
--- 19 is tested first and returns the state as it came; then a walk that has ended says End, at any limit
-unfoldable pub call : List ℕ → (limit : ℕ) → TrieWalk → (buffer : List ℕ) → Reply × List ℕ
-call s limit w b =
-    cond (outOfRange (w .places) (w .lengths) (openNodes (w .begun) (w .depth)) (length s) (length b))
-    (replied (refused (numberOf StateOutOfRange)) w 0 b)
-    (cond (w .ended) (replied end w 0 b)
-    (goOn s limit w b))
+  -- of a walk that has not ended: limit 0 says More and changes nothing
+  unfoldable pub goOn : (limit : ℕ) → TrieWalk → List ℕ → Outcome
+  goOn zero w b = replied more w 0 b
+  goOn (suc k) w b = cond (eqb (w .depth) 0) (visitRoot w k b (nodeAt s 0)) (onward w (suc k) 0 w b)
+
+  -- 19 is tested first and returns the state as it came; then a walk that has ended says End, at any limit
+  unfoldable pub call : (limit : ℕ) → TrieWalk → (buffer : List ℕ) → Outcome
+  call limit w b =
+      cond (outOfRange most (w .places) (w .lengths) (w .depth) (length s) (length b))
+      (replied (refused (numberOf StateOutOfRange)) w 0 b)
+      (cond (w .ended) (replied end w 0 b)
+      (goOn limit w b))

@@ -1,38 +1,23 @@
 -- The open nodes of a walk: of each of its arrays the first `d`, the last of them for the node on top. A node on top that has no child
--- left to read is still one of them until a call closes it.
+-- left to read is still one of them until a call closes it. How many there may be at once is `most`.
 use Prim.Native.Nat.{ℕ, zero, suc}
-use mathlib.Core.Bool.{Bool, false, cond, _||_}
+use mathlib.Core.Bool.{Bool, cond, _||_}
 use mathlib.Core.List.{List, [], _∷_}
 use lib.Dec.{ltb, eqb}
 use lib.ListN.{getD}
-
--- how many there may be at once
-abbrev pub most : ℕ
-most = 256
-
--- a walk that has not begun has none, whatever its depth
-abbrev pub openNodes : (begun : Bool) (depth : ℕ) → ℕ
-openNodes begun depth = cond begun depth 0
+use Rattle.nodes.specs.Child.{any}
 
 -- what an array has for them, the one on top first
 unfoldable pub topDown : List ℕ → (d : ℕ) → List ℕ
 topDown xs zero = []
 topDown xs (suc d) = getD xs d 0 ∷ topDown xs d
 
--- whether one of a list passes a test
-unfoldable pub any : (ℕ → Bool) → List ℕ → Bool
-any p [] = false
-any p (x ∷ xs) = p x || any p xs
-
-abbrev pub isOneOf : ℕ → List ℕ → Bool
-isOneOf x xs = any (λ y. eqb y x) xs
-
 abbrev pub oneAbove : (bound : ℕ) → List ℕ → Bool
 oneAbove bound xs = any (λ y. ltb bound y) xs
 
 -- there are more than may be, or one has its read place beyond the bytes or a name longer than the room
-unfoldable pub outOfRange : (places lengths : List ℕ) (d bytes room : ℕ) → Bool
-outOfRange places lengths d bytes room =
+unfoldable pub outOfRange : (most : ℕ) (places lengths : List ℕ) (d bytes room : ℕ) → Bool
+outOfRange most places lengths d bytes room =
     ltb most d || (oneAbove bytes (topDown places d) || oneAbove room (topDown lengths d))
 
 -- how many are left when those on top that have no child left are closed

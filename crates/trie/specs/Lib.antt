@@ -1,8 +1,5 @@
-pub mod ExportsTrie
-pub mod Exported
 pub mod Frames
-pub mod Child
-pub mod Listing
+pub mod NextChild
 pub mod Call
 pub mod Told
 pub mod Joined

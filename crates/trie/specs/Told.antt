@@ -1,7 +1,7 @@
 -- What the code's values say.
+use Rattle.nodes.specs.Exported.{exportTold}
 use Rattle.refusal.specs.Numbers.{numberOf}
 use Rattle.trie.specs.Call.{Answer, export, more, end, refused, Reply}
-use Rattle.trie.specs.Exported.{exportTold}
 use Rattle.trie.specs.declared.TrieAnswer.{TrieAnswer}
 use Rattle.trie.specs.declared.TrieAnswer.the-variants as answer
 use Rattle.trie.specs.declared.TrieStep.{TrieStep}

@@ -2,21 +2,14 @@
 ghost use mathlib.Core.Path.{_≡_};
 ghost use Prim.Native.Nat.{_+_, _≤_};
 ghost use lib.Dec.{ltb};
-ghost use Rattle.trie.specs.Child.{childAt};
 ghost use Rattle.trie.specs.Frames.{topDown};
+ghost use Rattle.trie.specs.NextChild.{childAt};
 use crate::frames::is_open;
-use crate::node::Edge;
-use crate::node::EdgeRead;
-use crate::node::Node;
-use crate::node::NodeRead;
-use crate::node::read_edge;
-use crate::node::read_node;
+use nodes::child::Child;
+use nodes::child::enter;
+use nodes::node::EdgeRead;
+use nodes::node::read_edge;
 use refusal::Refusal;
-
-pub(crate) enum Child {
-    Found(Edge, Node),
-    Refused(Refusal),
-}
 
 // The child whose edge is at a place. The first `depth` of the offsets are those of the open nodes,
 // and the name of the one on top has `kept` bytes.
@@ -34,19 +27,10 @@ pub(crate) fn read_child(
     let EdgeRead::Found(edge) = read_edge(s, place as usize) else {
         return Child::Refused(Refusal::FaultyNode);
     };
-    // Both are asked here, and told in the order of the definition.
-    let long = is_long(kept, edge.length, room);
-    let open = is_open(offsets, depth, edge.offset);
-    if long {
+    if is_long(kept, edge.length, room) {
         return Child::Refused(Refusal::NameTooLong);
     }
-    if open {
-        return Child::Refused(Refusal::ChildIsOpen);
-    }
-    let NodeRead::Found(node) = read_node(s, edge.offset) else {
-        return Child::Refused(Refusal::FaultyNode);
-    };
-    Child::Found(edge, node)
+    enter(s, is_open(offsets, depth, edge.offset), edge)
 }
 
 // Whether a name of so many bytes and so many more is longer than the room.

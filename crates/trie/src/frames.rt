@@ -1,17 +1,11 @@
 // The open nodes: of each array of a walk, the first `depth` elements.
 ghost use mathlib.Core.Path.{_≡_};
 ghost use Prim.Native.Nat.{_≤_};
-ghost use Rattle.trie.specs.Frames.{openNodes, topDown, isOneOf, oneAbove, outOfRange, stillOpen};
+ghost use Rattle.nodes.specs.Child.{isOneOf};
+ghost use Rattle.trie.specs.Frames.{topDown, oneAbove, outOfRange, stillOpen};
 
 // How many there may be at once: the length of the arrays.
 pub(crate) const MOST: usize = 256;
-
-// How many there are: none before the walk has begun.
-pub(crate) fn open_nodes(begun: bool, depth: usize) -> usize
-    ensures { λ r. ⌜ r ≡ openNodes begun depth ⌝ }
-{
-    if begun { depth } else { 0 }
-}
 
 // Whether they are too many, or one has its read place beyond the bytes or its name beyond the room.
 pub(crate) fn out_of_range<'a>(
@@ -21,7 +15,7 @@ pub(crate) fn out_of_range<'a>(
     bytes: usize,
     room: usize,
 ) -> bool
-    ensures { λ r. ⌜ r ≡ outOfRange (now (places .entry)) (now (lengths .entry)) depth bytes room ⌝ }
+    ensures { λ r. ⌜ r ≡ outOfRange 256 (now (places .entry)) (now (lengths .entry)) depth bytes room ⌝ }
 {
     if MOST < depth {
         return true;

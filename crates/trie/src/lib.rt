@@ -3,41 +3,37 @@
 // of nodes visited.
 ghost use mathlib.Core.Path.{_≡_};
 ghost use Prim.Native.Nat.{_-_, _≤_, _<_};
-ghost use Rattle.trie.specs.Call.{atStart, marked, onward, visitRoot, call};
-ghost use Rattle.trie.specs.ExportsTrie.{nodeAt};
+ghost use Rattle.nodes.specs.ExportsTrie.{nodeAt};
+ghost use Rattle.trie.specs.Call.{atStart, marked, seen, onward, visitRoot, call};
 ghost use Rattle.trie.specs.Told.{told};
 ghost use Rattle.trie.specs.declared.TrieAnswer.the-variants.{Refused};
 
 mod child;
-pub mod export;
 mod frames;
 mod names;
-mod node;
 
-use child::Child;
 use child::read_child;
-use export::Export;
 use frames::MOST;
-use frames::open_nodes;
 use frames::out_of_range;
 use frames::still_open;
 use names::put;
-use node::NodeRead;
-use node::Terminal;
-use node::read_node;
+use nodes::child::Child;
+use nodes::export::Export;
+use nodes::node::NodeRead;
+use nodes::node::Terminal;
+use nodes::node::read_node;
 use numbers::parts::part;
 use refusal::Refusal;
 
-// Once the walk has begun, the first `depth` elements of each array are those of the open nodes, the one
-// on top last: where its next edge is read, its offset, how many of its children are still to be read,
-// and the length of its name. Whether the root has been visited, and whether the walk has ended.
+// The first `depth` elements of each array are those of the open nodes, the one on top last: where its
+// next edge is read, its offset, the length of its name, and how many of its children are still to be
+// read. Whether the walk has ended; one that has not and has no node open has not begun.
 pub struct TrieWalk {
     pub places: [u64; 256],
     pub offsets: [u64; 256],
-    pub left: [u8; 256],
     pub lengths: [u64; 256],
     pub depth: usize,
-    pub begun: bool,
+    pub left: [u8; 256],
     pub ended: bool,
 }
 
@@ -50,22 +46,21 @@ pub enum TrieAnswer {
 }
 
 pub struct TrieStep {
-    pub answer: TrieAnswer,
     pub walk: TrieWalk,
     pub visits: u64,
+    pub answer: TrieAnswer,
 }
 
 impl TrieWalk {
     pub fn start() -> Self
-        ensures { λ r. ⌜ r ≡ atStart ⌝ }
+        ensures { λ r. ⌜ r ≡ atStart 256 ⌝ }
     {
         Self {
             places: [0; 256],
             offsets: [0; 256],
-            left: [0; 256],
             lengths: [0; 256],
             depth: 0,
-            begun: false,
+            left: [0; 256],
             ended: false,
         }
     }
@@ -73,10 +68,9 @@ impl TrieWalk {
     // Visits at most `limit` nodes, until there is something to answer. To be lent the same bytes at each
     // call, and the buffer as the last call left it.
     pub fn step(self, s: &[u8], name: &mut [u8], limit: u64) -> TrieStep
-        ensures { λ r. ⌜ (told r, now (name .exit)) ≡ call (now (s .entry)) limit self (now (name .entry)) ⌝ }
+        ensures { λ r. ⌜ (told r, now (name .exit)) ≡ seen (call 256 (now (s .entry)) limit self (now (name .entry))) ⌝ }
     {
-        let depth = open_nodes(self.begun, self.depth);
-        if out_of_range(&self.places, &self.lengths, depth, s.len(), name.len()) {
+        if out_of_range(&self.places, &self.lengths, self.depth, s.len(), name.len()) {
             return self.answer(TrieAnswer::Refused(Refusal::StateOutOfRange), 0);
         }
         if self.ended {
@@ -85,16 +79,16 @@ impl TrieWalk {
         if limit == 0 {
             return self.answer(TrieAnswer::More, 0);
         }
-        if self.begun {
-            return self.onward(self, s, name, limit, 0);
+        if self.depth == 0 {
+            return self.root(s, name, limit);
         }
-        self.root(s, name, limit)
+        self.onward(self, s, name, limit, 0)
     }
 
     // The first visit of a walk, and what follows it.
     fn root(self, s: &[u8], name: &mut [u8], limit: u64) -> TrieStep
         requires { ⌜ 0 < limit ⌝ }
-        ensures { λ r. ⌜ (told r, now (name .exit)) ≡ visitRoot (now (s .entry)) self (limit - 1) (now (name .entry)) (nodeAt (now (s .entry)) 0) ⌝ }
+        ensures { λ r. ⌜ (told r, now (name .exit)) ≡ seen (visitRoot 256 (now (s .entry)) self (limit - 1) (now (name .entry)) (nodeAt (now (s .entry)) 0)) ⌝ }
     {
         let NodeRead::Found(node) = read_node(s, 0) else {
             return self.refused(Refusal::FaultyNode, 0);
@@ -106,7 +100,6 @@ impl TrieWalk {
         w.left[0] = node.children;
         w.lengths[0] = 0;
         w.depth = 1;
-        w.begun = true;
         let terminal = node.terminal;
         match terminal {
             Terminal::NoExport => self.onward(w, s, name, limit, 1),
@@ -118,7 +111,7 @@ impl TrieWalk {
     // arrays change in place, since every call that takes a state by value copies them.
     fn onward(self, from: TrieWalk, s: &[u8], name: &mut [u8], limit: u64, done: u64) -> TrieStep
         requires { ⌜ (from .depth ≤ 256) × (done ≤ limit) ⌝ }
-        ensures { λ r. ⌜ (told r, now (name .exit)) ≡ onward (now (s .entry)) self (limit - done) done from (now (name .entry)) ⌝ }
+        ensures { λ r. ⌜ (told r, now (name .exit)) ≡ seen (onward 256 (now (s .entry)) self (limit - done) done from (now (name .entry))) ⌝ }
     {
         let mut w = from;
         let mut visits = done;
@@ -152,7 +145,6 @@ impl TrieWalk {
                     w.left[depth] = node.children;
                     w.lengths[depth] = length;
                     w.depth = depth + 1;
-                    w.begun = true;
                     visits += 1;
                     let terminal = node.terminal;
                     match terminal {
@@ -179,9 +171,9 @@ impl TrieWalk {
         ensures { λ r. ⌜ r ≡ record { answer = answer; walk = self; visits = visits } ⌝ }
     {
         TrieStep {
-            answer,
             walk: self,
             visits,
+            answer,
         }
     }
 }

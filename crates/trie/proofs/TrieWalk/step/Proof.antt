@@ -12,27 +12,26 @@ step-spec =
     (tie.spec
     (λ c κs. search needs)
     (λ c κs. search needs)
-    (λ c κs. search needs)
     (λ c.
     let o = c .before .before in
-    is-out _ _ _ _ (o .before .before .before .before .open-nodes .ensures) (o .out-of-range .ensures) (c .before .if1 .taken) {r = c .answer .result} (search (c .answer .ensures)))
+    is-out _ _ _ _ (o .out-of-range .ensures) (c .before .if1 .taken) {r = c .answer .result} (search (c .answer .ensures)))
     (λ c κs. search needs)
     (λ c.
     let o = c .before .before .before in
-    is-ended _ _ _ _ (o .before .before .before .before .open-nodes .ensures) (o .out-of-range .ensures) (c .before .before .if1 .left) (c .before .if2 .taken) {r = c .answer2 .result} (search (c .answer2 .ensures)))
+    is-ended _ _ _ _ (o .out-of-range .ensures) (c .before .before .if1 .left) (c .before .if2 .taken) {r = c .answer2 .result} (search (c .answer2 .ensures)))
     (λ c κs. search needs)
     (λ c.
     let o = c .before .before .before .before in
-    is-none _ _ _ _ (o .before .before .before .before .open-nodes .ensures) (o .out-of-range .ensures) (c .before .before .before .if1 .left) (c .before .before .if2 .left) (c .before .if3 .taken) {r = c .answer3 .result} (search (c .answer3 .ensures)))
-    (λ c κs.
-    let o = c .before .before .before .before .before in
-    (range-fits _ _ _ _ _ _ _ (o .before .before .before .before .open-nodes .ensures) (o .out-of-range .ensures) (c .before .before .before .before .if1 .left) (c .before .if4 .taken), omega arith))
-    (λ c. search needs)
-    (λ c.
-    let o = c .before .before .before .before .before .before .before .before in
-    is-begun _ _ _ _ (o .before .before .before .before .open-nodes .ensures) (o .out-of-range .ensures) (c .before .before .before .before .before .before .before .if1 .left) (c .before .before .before .before .before .before .if2 .left) (c .before .before .before .before .before .if3 .left) (c .before .before .before .before .if4 .taken) (search (c .before .before .onward .ensures)))
+    is-none _ _ _ _ (o .out-of-range .ensures) (c .before .before .before .if1 .left) (c .before .before .if2 .left) (c .before .if3 .taken) {r = c .answer3 .result} (search (c .answer3 .ensures)))
     (λ c κs. search needs)
     (λ c. search needs)
     (λ c.
     let o = c .before .before .before .before .before .before .before .before in
-    is-first _ _ _ _ (o .before .before .before .before .open-nodes .ensures) (o .out-of-range .ensures) (c .before .before .before .before .before .before .before .if1 .left) (c .before .before .before .before .before .before .if2 .left) (c .before .before .before .before .before .if3 .left) (c .before .before .before .before .if4 .left) (search (c .before .before .root .ensures))))
+    is-first _ _ _ _ (o .out-of-range .ensures) (c .before .before .before .before .before .before .before .if1 .left) (c .before .before .before .before .before .before .if2 .left) (c .before .before .before .before .before .if3 .left) (c .before .before .before .before .if4 .taken) (search (c .before .before .root .ensures)))
+    (λ c κs.
+    let o = c .before .before .before .before .before in
+    (range-fits _ _ _ _ _ (o .out-of-range .ensures) (c .before .before .before .before .if1 .left), omega arith))
+    (λ c. search needs)
+    (λ c.
+    let o = c .before .before .before .before .before .before .before .before in
+    is-begun _ _ _ _ (o .out-of-range .ensures) (c .before .before .before .before .before .before .before .if1 .left) (c .before .before .before .before .before .before .if2 .left) (c .before .before .before .before .before .if3 .left) (c .before .before .before .before .if4 .left) (search (c .before .before .onward .ensures))))

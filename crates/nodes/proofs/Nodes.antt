@@ -1,7 +1,7 @@
 -- The terminal area of a node, by the tests of its reader: for `search`. Assumes nothing.
 use Prim.Native.Nat.{ℕ, _+_, _-_, _≤_, _<_}
 use mathlib.Core.Path.{_≡_, sym, ap, _∙_}
-use mathlib.Core.Bool.{true, false}
+use mathlib.Core.Bool.{Bool, true, false}
 use mathlib.Core.List.{List}
 use native.Mathlib.Omega.{arith}
 use borrow.Author.Tests.{lt-ltb, le-ltb, le-leb, lt-leb}
@@ -11,18 +11,19 @@ use Rattle.numbers.proofs.Laws.{uleb-read}
 use Rattle.numbers.specs.Leb128.{ulebAt}
 use Rattle.numbers.specs.declared.leb128.Unsigned.{Unsigned}
 use Rattle.numbers.specs.declared.leb128.Unsigned.the-variants.{Value}
-use Rattle.trie.specs.Child.{thenEdge, thenNode}
-use Rattle.trie.specs.ExportsTrie.{thenExport, exportAt, countedAt}
-use Rattle.trie.specs.declared.export.Export.{Export}
-use Rattle.trie.specs.declared.export.ExportRead.{ExportRead}
-use Rattle.trie.specs.declared.export.ExportRead.the-variants as export
-use Rattle.trie.specs.declared.node.Edge.{Edge}
-use Rattle.trie.specs.declared.node.EdgeRead.{EdgeRead}
-use Rattle.trie.specs.declared.node.EdgeRead.the-variants as edge
-use Rattle.trie.specs.declared.node.Node.{Node}
-use Rattle.trie.specs.declared.node.NodeRead.{NodeRead}
-use Rattle.trie.specs.declared.node.NodeRead.the-variants as node
-use Rattle.trie.specs.declared.node.Terminal.{Terminal}
+use Rattle.nodes.specs.Child.{thenEdge, thenNode, enteredAt}
+use Rattle.nodes.specs.ExportsTrie.{thenExport, exportAt, countedAt}
+use Rattle.nodes.specs.declared.child.Child.{Child}
+use Rattle.nodes.specs.declared.export.Export.{Export}
+use Rattle.nodes.specs.declared.export.ExportRead.{ExportRead}
+use Rattle.nodes.specs.declared.export.ExportRead.the-variants as export
+use Rattle.nodes.specs.declared.node.Edge.{Edge}
+use Rattle.nodes.specs.declared.node.EdgeRead.{EdgeRead}
+use Rattle.nodes.specs.declared.node.EdgeRead.the-variants as edge
+use Rattle.nodes.specs.declared.node.Node.{Node}
+use Rattle.nodes.specs.declared.node.NodeRead.{NodeRead}
+use Rattle.nodes.specs.declared.node.NodeRead.the-variants as node
+use Rattle.nodes.specs.declared.node.Terminal.{Terminal}
 
 module _ (s : List ℕ) (offset : ℕ) {r : Unsigned} {size at : ℕ} (e : r ≡ ulebAt s offset) (f : r ≡ Value size at) where
   pub area-starts : at ≤ length s
@@ -79,3 +80,7 @@ module _ {A : Type 0} (x : NodeRead) (faulty : A) (go : Node → A) {r : NodeRea
   node-faulty f q = rw (sym e ∙ f) q
 
 pub ruleset child-reads = (edge-read, edge-faulty, node-read, node-faulty)
+
+-- by whether its offset is that of an open node, as another test says it
+pub entered-as : (s : List ℕ) (e : Edge) (p : Bool) {o : Bool} {r : Child} → r ≡ enteredAt s o e → o ≡ p → r ≡ enteredAt s p e
+entered-as s e p q f = q ∙ ap (λ (o : Bool). enteredAt s o e) f

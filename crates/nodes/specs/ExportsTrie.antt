@@ -10,17 +10,17 @@ use lib.ListN.{length, getD, take}
 use Rattle.numbers.specs.Leb128.{ulebAt}
 use Rattle.numbers.specs.Strings.{stringAt}
 use Rattle.numbers.specs.Then.{thenUnsigned, thenText}
-use Rattle.trie.specs.declared.export.Export.{Export}
-use Rattle.trie.specs.declared.export.ExportData.{ExportData}
-use Rattle.trie.specs.declared.export.ExportData.the-variants.{Regular, Reexport, StubAndResolver}
-use Rattle.trie.specs.declared.export.ExportRead.{ExportRead}
-use Rattle.trie.specs.declared.export.ExportRead.the-variants as export
-use Rattle.trie.specs.declared.node.EdgeRead.{EdgeRead}
-use Rattle.trie.specs.declared.node.EdgeRead.the-variants as edge
-use Rattle.trie.specs.declared.node.NodeRead.{NodeRead}
-use Rattle.trie.specs.declared.node.NodeRead.the-variants as node
-use Rattle.trie.specs.declared.node.Terminal.{Terminal}
-use Rattle.trie.specs.declared.node.Terminal.the-variants as terminal
+use Rattle.nodes.specs.declared.export.Export.{Export}
+use Rattle.nodes.specs.declared.export.ExportData.{ExportData}
+use Rattle.nodes.specs.declared.export.ExportData.the-variants.{Regular, Reexport, StubAndResolver}
+use Rattle.nodes.specs.declared.export.ExportRead.{ExportRead}
+use Rattle.nodes.specs.declared.export.ExportRead.the-variants as export
+use Rattle.nodes.specs.declared.node.EdgeRead.{EdgeRead}
+use Rattle.nodes.specs.declared.node.EdgeRead.the-variants as edge
+use Rattle.nodes.specs.declared.node.NodeRead.{NodeRead}
+use Rattle.nodes.specs.declared.node.NodeRead.the-variants as node
+use Rattle.nodes.specs.declared.node.Terminal.{Terminal}
+use Rattle.nodes.specs.declared.node.Terminal.the-variants as terminal
 
 -- ---- export data: the flags, and what follows by them
 

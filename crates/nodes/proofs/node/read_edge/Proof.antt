@@ -1,9 +1,9 @@
--- `trie::node::read_edge` meets its contract. Assumes nothing.
+-- `nodes::node::read_edge` meets its contract. Assumes nothing.
 use Rattle.numbers.proofs.Then.{reads}
-use Rattle.trie.specs.ExportsTrie.{edgeAt}
+use Rattle.nodes.specs.ExportsTrie.{edgeAt}
 use borrow.Author.Needs.{needs}
-use Rattle.trie.proofs.node.read_edge.Statement.{statement}
-use Rattle.trie.proofs.node.read_edge.Tie as tie
+use Rattle.nodes.proofs.node.read_edge.Statement.{statement}
+use Rattle.nodes.proofs.node.read_edge.Tie as tie
 
 pub read-edge-spec : {M : Type 1} → statement M
 unfolding edgeAt

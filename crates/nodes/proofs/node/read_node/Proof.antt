@@ -1,11 +1,11 @@
--- `trie::node::read_node` meets its contract. Assumes nothing.
+-- `nodes::node::read_node` meets its contract. Assumes nothing.
 use Rattle.numbers.proofs.Then.{reads}
-use Rattle.trie.proofs.Nodes.{area-laws}
+use Rattle.nodes.proofs.Nodes.{area-laws}
 use Rattle.numbers.proofs.Picks.{picks}
-use Rattle.trie.specs.ExportsTrie.{nodeAt}
+use Rattle.nodes.specs.ExportsTrie.{nodeAt}
 use borrow.Author.Needs.{needs}
-use Rattle.trie.proofs.node.read_node.Statement.{statement}
-use Rattle.trie.proofs.node.read_node.Tie as tie
+use Rattle.nodes.proofs.node.read_node.Statement.{statement}
+use Rattle.nodes.proofs.node.read_node.Tie as tie
 
 pub read-node-spec : {M : Type 1} → statement M
 unfolding nodeAt

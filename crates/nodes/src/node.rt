@@ -1,6 +1,6 @@
 // The nodes of the exports trie, and the edges to their children.
 ghost use mathlib.Core.Path.{_≡_};
-ghost use Rattle.trie.specs.ExportsTrie.{countedAt, nodeAt, edgeAt};
+ghost use Rattle.nodes.specs.ExportsTrie.{countedAt, nodeAt, edgeAt};
 use crate::export::Export;
 use crate::export::ExportRead;
 use crate::export::read_export;
@@ -10,38 +10,38 @@ use numbers::strings::Text;
 use numbers::strings::read_string;
 
 // What a node exports under its name.
-pub(crate) enum Terminal {
+pub enum Terminal {
     NoExport,
     Export(Export),
 }
 
 // What a node exports, how many children it has, and the place of the first edge.
-pub(crate) struct Node {
+pub struct Node {
     pub terminal: Terminal,
     pub children: u8,
     pub place: usize,
 }
 
-pub(crate) enum NodeRead {
+pub enum NodeRead {
     Found(Node),
     Fault,
 }
 
 // The place and length of an edge's string, the offset of the child's node, and the place behind.
-pub(crate) struct Edge {
+pub struct Edge {
     pub place: usize,
     pub length: usize,
     pub offset: u64,
     pub next: usize,
 }
 
-pub(crate) enum EdgeRead {
+pub enum EdgeRead {
     Found(Edge),
     Fault,
 }
 
 // The node at an offset.
-pub(crate) fn read_node(s: &[u8], offset: u64) -> NodeRead
+pub fn read_node(s: &[u8], offset: u64) -> NodeRead
     ensures { λ r. ⌜ r ≡ nodeAt (now (s .entry)) offset ⌝ }
 {
     let Unsigned::Value(size, at) = read_uleb(s, offset as usize) else {
@@ -75,7 +75,7 @@ fn counted(s: &[u8], terminal: Terminal, at: usize) -> NodeRead
 }
 
 // The edge at a place.
-pub(crate) fn read_edge(s: &[u8], at: usize) -> EdgeRead
+pub fn read_edge(s: &[u8], at: usize) -> EdgeRead
     ensures { λ r. ⌜ r ≡ edgeAt (now (s .entry)) at ⌝ }
 {
     let Text::Found {

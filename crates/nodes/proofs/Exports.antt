@@ -10,10 +10,10 @@ use Rattle.numbers.proofs.Picks.{by-pick}
 use Rattle.numbers.proofs.Then.{by-unsigned, by-text}
 use Rattle.numbers.specs.Leb128.{ulebAt}
 use Rattle.numbers.specs.Strings.{stringAt}
-use Rattle.trie.specs.Exported.{Target, regular, reexport, stubAndResolver, Exported, exportTold}
-use Rattle.trie.specs.ExportsTrie.{hasBit, regularAt, stubAt, reexportAt, exportAt}
-use Rattle.trie.specs.declared.export.ExportRead.{ExportRead}
-use Rattle.trie.specs.declared.export.ExportRead.the-variants as export
+use Rattle.nodes.specs.Exported.{Target, regular, reexport, stubAndResolver, Exported, exportTold}
+use Rattle.nodes.specs.ExportsTrie.{hasBit, regularAt, stubAt, reexportAt, exportAt}
+use Rattle.nodes.specs.declared.export.ExportRead.{ExportRead}
+use Rattle.nodes.specs.declared.export.ExportRead.the-variants as export
 
 -- in so many bytes
 abbrev pub TargetIn : (bytes : ℕ) → Target → Type 0

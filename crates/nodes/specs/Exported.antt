@@ -1,8 +1,8 @@
 -- What an export says: its flags, and the values that its kind has.
 use Prim.Native.Nat.{ℕ}
-use Rattle.trie.specs.declared.export.Export.{Export}
-use Rattle.trie.specs.declared.export.ExportData.{ExportData}
-use Rattle.trie.specs.declared.export.ExportData.the-variants.{Regular, Reexport, StubAndResolver}
+use Rattle.nodes.specs.declared.export.Export.{Export}
+use Rattle.nodes.specs.declared.export.ExportData.{ExportData}
+use Rattle.nodes.specs.declared.export.ExportData.the-variants.{Regular, Reexport, StubAndResolver}
 
 pub data Target : Type 0 where
   regular : (address : ℕ) → Target

@@ -1,8 +1,8 @@
--- `trie::node::counted` meets its contract. Assumes nothing.
-use Rattle.trie.proofs.Nodes.{not-counted, counted}
+-- `nodes::node::counted` meets its contract. Assumes nothing.
+use Rattle.nodes.proofs.Nodes.{not-counted, counted}
 use borrow.Author.Needs.{needs}
-use Rattle.trie.proofs.node.counted.Statement.{statement}
-use Rattle.trie.proofs.node.counted.Tie as tie
+use Rattle.nodes.proofs.node.counted.Statement.{statement}
+use Rattle.nodes.proofs.node.counted.Tie as tie
 
 pub counted-spec : {M : Type 1} → statement M
 counted-spec =

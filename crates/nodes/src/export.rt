@@ -1,7 +1,7 @@
 // What a node of the exports trie exports.
 ghost use mathlib.Core.Path.{_≡_};
 ghost use Rattle.numbers.specs.Parts.{partAt};
-ghost use Rattle.trie.specs.ExportsTrie.{regularAt, reexportAt, stubAt, exportAt};
+ghost use Rattle.nodes.specs.ExportsTrie.{regularAt, reexportAt, stubAt, exportAt};
 use numbers::leb128::Unsigned;
 use numbers::leb128::read_uleb;
 use numbers::parts::part;

@@ -1,9 +1,9 @@
--- `trie::export::reexport` meets its contract. Assumes nothing.
+-- `nodes::export::reexport` meets its contract. Assumes nothing.
 use Rattle.numbers.proofs.Then.{reads}
-use Rattle.trie.specs.ExportsTrie.{reexportAt}
+use Rattle.nodes.specs.ExportsTrie.{reexportAt}
 use borrow.Author.Needs.{needs}
-use Rattle.trie.proofs.export.reexport.Statement.{statement}
-use Rattle.trie.proofs.export.reexport.Tie as tie
+use Rattle.nodes.proofs.export.reexport.Statement.{statement}
+use Rattle.nodes.proofs.export.reexport.Tie as tie
 
 pub reexport-spec : {M : Type 1} → statement M
 unfolding reexportAt

@@ -1,10 +1,10 @@
--- `trie::export::read_export` meets its contract. Assumes nothing.
+-- `nodes::export::read_export` meets its contract. Assumes nothing.
 use Rattle.numbers.proofs.Then.{reads}
 use Rattle.numbers.proofs.Picks.{picks}
-use Rattle.trie.specs.ExportsTrie.{exportAt}
+use Rattle.nodes.specs.ExportsTrie.{exportAt}
 use borrow.Author.Needs.{needs}
-use Rattle.trie.proofs.export.read_export.Statement.{statement}
-use Rattle.trie.proofs.export.read_export.Tie as tie
+use Rattle.nodes.proofs.export.read_export.Statement.{statement}
+use Rattle.nodes.proofs.export.read_export.Tie as tie
 
 pub read-export-spec : {M : Type 1} → statement M
 unfolding exportAt

@@ -1,9 +1,9 @@
--- `trie::export::regular` meets its contract. Assumes nothing.
+-- `nodes::export::regular` meets its contract. Assumes nothing.
 use Rattle.numbers.proofs.Then.{reads}
-use Rattle.trie.specs.ExportsTrie.{regularAt}
+use Rattle.nodes.specs.ExportsTrie.{regularAt}
 use borrow.Author.Needs.{needs}
-use Rattle.trie.proofs.export.regular.Statement.{statement}
-use Rattle.trie.proofs.export.regular.Tie as tie
+use Rattle.nodes.proofs.export.regular.Statement.{statement}
+use Rattle.nodes.proofs.export.regular.Tie as tie
 
 pub regular-spec : {M : Type 1} → statement M
 unfolding regularAt

@@ -1,9 +1,9 @@
--- `trie::export::stub_and_resolver` meets its contract. Assumes nothing.
+-- `nodes::export::stub_and_resolver` meets its contract. Assumes nothing.
 use Rattle.numbers.proofs.Then.{reads}
-use Rattle.trie.specs.ExportsTrie.{stubAt}
+use Rattle.nodes.specs.ExportsTrie.{stubAt}
 use borrow.Author.Needs.{needs}
-use Rattle.trie.proofs.export.stub_and_resolver.Statement.{statement}
-use Rattle.trie.proofs.export.stub_and_resolver.Tie as tie
+use Rattle.nodes.proofs.export.stub_and_resolver.Statement.{statement}
+use Rattle.nodes.proofs.export.stub_and_resolver.Tie as tie
 
 pub stub-and-resolver-spec : {M : Type 1} → statement M
 unfolding stubAt
