@@ -11,9 +11,9 @@ use Rattle.packing.proofs.Whole.{words-back}
 use Rattle.packing.proofs.Words.{length-bytes}
 use Rattle.packing.specs.Fields.{u64}
 use Rattle.packing.specs.Words.{wordAt, wordsFrom, bytesOf}
-use Rattle.trie.proofs.Exports.{TargetIn, ExportIn}
+use Rattle.nodes.proofs.Exports.{TargetIn, ExportIn}
 use Rattle.trie.specs.Call.{Answer}
-use Rattle.trie.specs.Exported.{Target, regular, reexport, stubAndResolver, Exported}
+use Rattle.nodes.specs.Exported.{Target, regular, reexport, stubAndResolver, Exported}
 
 pub item-long : (n : ℕ) (a : Answer) → length (bytesOf (itemWords n a)) ≡ itemLong
 item-long n a = length-bytes (itemWords n a) ∙ nine n a

@@ -5,7 +5,7 @@ use mathlib.Core.List.{List, [], _∷_, _++_, append-assoc, append-nil}
 use native.Mathlib.Omega.{arith}
 use lib.ListN.{length, take, drop, set, length-append, length-drop, length-take, drop-of-length-le}
 use lib.Seq.{sets, sets-eq, take-all, take-at, drop-at, drop-drop}
-use Rattle.packed_trie.specs.Packed.{stateWords, stateBytes, stateAt}
+use Rattle.packed_trie.specs.Packed.{most, places, offsets, lengths, left, stateLong, stateWords, stateBytes, stateAt}
 use Rattle.packing.proofs.Boundary.{over}
 use Rattle.packing.proofs.Words.{length-bytes}
 use Rattle.packing.specs.Fields.{isSet, bit}
@@ -15,8 +15,10 @@ use Rattle.trie.specs.declared.TrieWalk.{TrieWalk}
 -- ---- written
 
 -- words written over a part
-pub put-as : (words state : List ℕ) (at : ℕ) {t : List ℕ} → at + 8 * length words ≤ length state → t ≡ written words (take (at + 8 * length words - at) (drop at state)) → take at state ++ (t ++ drop (at + 8 * length words - at) (drop at state)) ≡ sets state at (bytesOf words)
-put-as words state at {t} h e =
+pub put-as : (words state : List ℕ) (first : ℕ) {t : List ℕ} → 8 * (first + length words) ≤ length state → t ≡ written words (take (8 * first + 8 * length words - 8 * first) (drop (8 * first) state))
+    → take (8 * first) state ++ (t ++ drop (8 * first + 8 * length words - 8 * first) (drop (8 * first) state)) ≡ sets state (8 * first) (bytesOf words)
+put-as words state first {t} h e =
+    let at : ℕ = 8 * first in
     let n : ℕ = 8 * length words in
     let k : at + n - at ≡ n = omega arith in
     let l : length (take n (drop at state)) ≡ n = omega (arith, length-take n (drop at state), length-drop at state) in
@@ -47,31 +49,33 @@ behind s vs ws at l e f =
     ∙ ap (sets s 0) (sym (bytes-append vs ws))
 
 -- a state: its words, and behind them its bytes
-module _ (w : TrieWalk) (s : List ℕ) (long : length s ≡ 6424) (places : length (w .places) ≡ 256) (offsets : length (w .offsets) ≡ 256) (lengths : length (w .lengths) ≡ 256) where
-  pub kept : {x y : ℕ} {t₁ t₂ t₃ t₄ v : List ℕ} → x ≡ bit (w .begun) → y ≡ bit (w .ended) → t₁ ≡ sets s 0 (bytesOf (w .depth ∷ x ∷ y ∷ [])) → t₂ ≡ sets t₁ 24 (bytesOf (w .places)) → t₃ ≡ sets t₂ 2072 (bytesOf (w .offsets)) → t₄ ≡ sets t₃ 4120 (bytesOf (w .lengths)) → v ≡ w .left → take 6168 t₄ ++ (v ++ drop 256 (drop 6168 t₄)) ≡ stateBytes w
+module _ (w : TrieWalk) (s : List ℕ) (long : length s ≡ stateLong) (p : length (w .places) ≡ most) (o : length (w .offsets) ≡ most) (l : length (w .lengths) ≡ most) where
+  pub kept : {x : ℕ} {t₁ t₂ t₃ t₄ v : List ℕ} → x ≡ bit (w .ended) → t₁ ≡ sets s 0 (bytesOf (w .depth ∷ x ∷ [])) → t₂ ≡ sets t₁ (8 * places) (bytesOf (w .places)) → t₃ ≡ sets t₂ (8 * offsets) (bytesOf (w .offsets))
+      → t₄ ≡ sets t₃ (8 * lengths) (bytesOf (w .lengths)) → v ≡ w .left → take left t₄ ++ (v ++ drop most (drop left t₄)) ≡ stateBytes w
   unfolding stateBytes
-  kept {t₄ = t₄} ex ey e₁ e₂ e₃ e₄ e₅ =
-      let head : List ℕ = w .depth ∷ bit (w .begun) ∷ bit (w .ended) ∷ [] in
+  kept {t₄ = t₄} ex e₁ e₂ e₃ e₄ e₅ =
+      let head : List ℕ = w .depth ∷ bit (w .ended) ∷ [] in
       let u : List ℕ = bytesOf (stateWords w) in
       let n₁ = length-append (w .places) (w .offsets) in
       let n₂ = length-append (w .places ++ w .offsets) (w .lengths) in
-      let l : length u ≡ 6168 = omega (arith, length-bytes (stateWords w)) in
-      let z : 0 + length u ≡ 6168 = omega arith in
-      let f₁ = e₁ ∙ (λ j. sets s 0 (bytesOf (w .depth ∷ ex j ∷ ey j ∷ []))) in
-      let f₂ = behind s head (w .places) 24 refl f₁ e₂ in
-      let f₃ = behind s (head ++ w .places) (w .offsets) 2072 (omega arith) f₂ e₃ in
-      let f₄ = behind s (head ++ w .places ++ w .offsets) (w .lengths) 4120 (omega arith) f₃ e₄ in
-      let all : t₄ ≡ u ++ drop 6168 s = f₄ ∙ sets-eq u s 0 (omega arith) ∙ ap (λ (n : ℕ). u ++ drop n s) z in
-      let front : take 6168 t₄ ≡ u = ap (take 6168) all ∙ take-at u (drop 6168 s) 6168 l in
-      let none : drop 256 (drop 6168 t₄) ≡ [] =
-      ap (λ (t : List ℕ). drop 256 (drop 6168 t)) all
-      ∙ ap (drop 256) (drop-at u (drop 6168 s) 6168 l)
-      ∙ drop-of-length-le (drop 6168 s) {i = 256} (omega (arith, length-drop 6168 s)) in
+      let m : length u ≡ left = omega (arith, length-bytes (stateWords w)) in
+      let z : 0 + length u ≡ left = omega arith in
+      let f₁ = e₁ ∙ (λ j. sets s 0 (bytesOf (w .depth ∷ ex j ∷ []))) in
+      let f₂ = behind s head (w .places) (8 * places) refl f₁ e₂ in
+      let f₃ = behind s (head ++ w .places) (w .offsets) (8 * offsets) (omega arith) f₂ e₃ in
+      let f₄ = behind s (head ++ w .places ++ w .offsets) (w .lengths) (8 * lengths) (omega arith) f₃ e₄ in
+      let all : t₄ ≡ u ++ drop left s = f₄ ∙ sets-eq u s 0 (omega arith) ∙ ap (λ (n : ℕ). u ++ drop n s) z in
+      let front : take left t₄ ≡ u = ap (take left) all ∙ take-at u (drop left s) left m in
+      let none : drop most (drop left t₄) ≡ [] =
+      ap (λ (t : List ℕ). drop most (drop left t)) all
+      ∙ ap (drop most) (drop-at u (drop left s) left m)
+      ∙ drop-of-length-le (drop left s) {i = most} (omega (arith, length-drop left s)) in
       (λ j. front j ++ (e₅ j ++ none j)) ∙ ap (λ (t : List ℕ). u ++ t) (append-nil (w .left))
 
 -- ---- read
 
-pub held-as : (s : List ℕ) {places offsets left lengths : List ℕ} {depth v w : ℕ} → length s ≡ 6424 → places ≡ wordsFrom s 3 256 → offsets ≡ wordsFrom s 259 256 → left ≡ take 256 (drop 6168 s) → lengths ≡ wordsFrom s 515 256 → depth ≡ wordAt s 0 → v ≡ wordAt s 1 → w ≡ wordAt s 2 → _≡_ {A = TrieWalk} (record { places = places; offsets = offsets; left = left; lengths = lengths; depth = depth; begun = isSet v; ended = isSet w }) (stateAt s)
-held-as s l e₁ e₂ e₃ e₄ e₅ e₆ e₇ =
-    let f = e₃ ∙ take-all 256 (drop 6168 s) (omega (arith, length-drop 6168 s)) in
-    λ j. record { places = e₁ j; offsets = e₂ j; left = f j; lengths = e₄ j; depth = e₅ j; begun = isSet (e₆ j); ended = isSet (e₇ j) }
+pub held-as : (s : List ℕ) {ps os cs ls : List ℕ} {depth v : ℕ} → length s ≡ stateLong → ps ≡ wordsFrom s places most → os ≡ wordsFrom s offsets most → ls ≡ wordsFrom s lengths most → cs ≡ take most (drop left s) → depth ≡ wordAt s 0 → v ≡ wordAt s 1
+    → _≡_ {A = TrieWalk} (record { places = ps; offsets = os; lengths = ls; depth = depth; left = cs; ended = isSet v }) (stateAt s)
+held-as s l e₁ e₂ e₃ e₄ e₅ e₆ =
+    let f = e₄ ∙ take-all most (drop left s) (omega (arith, length-drop left s)) in
+    λ j. record { places = e₁ j; offsets = e₂ j; lengths = e₃ j; depth = e₅ j; left = f j; ended = isSet (e₆ j) }

@@ -6,18 +6,18 @@ use mathlib.Core.List.{List}
 use native.Mathlib.Omega.{arith}
 use borrow.Author.Tests.{eq-eqb, ne-eqb}
 use lib.ListN.{length}
-use Rattle.packed_trie.specs.Packed.{stateLong, stateBytes, holds, stateAt, states, targetWords, itemWords, itemLong, answerTold, stepTold, stepped}
+use Rattle.packed_trie.specs.Packed.{most, stateLong, stateBytes, holds, stateAt, states, targetWords, itemWords, itemLong, answerTold, stepTold, stepped}
 use Rattle.packing.proofs.Boundary.{over, two, begins}
 use Rattle.packing.specs.Boundary.{itemTold, unfit, started}
 use Rattle.packing.specs.Words.{written}
 use Rattle.runs.specs.Runs.{begun}
-use Rattle.trie.specs.Call.{atStart, Answer, export, more, end, refused, Reply, call}
-use Rattle.trie.specs.Exported.{Target, regular, reexport, stubAndResolver}
+use Rattle.trie.specs.Call.{atStart, Answer, export, more, end, refused, Reply, seen, call}
+use Rattle.nodes.specs.Exported.{Target, regular, reexport, stubAndResolver}
 use Rattle.trie.specs.declared.TrieWalk.{TrieWalk}
 
 -- ---- a start
 
-pub begins-at : (state : List ℕ) {w : TrieWalk} {t : List ℕ} → length state ≡ stateLong → w ≡ atStart → t ≡ stateBytes w → _≡_ {A = ℕ × List ℕ} (itemTold, t) (started states state (begun atStart))
+pub begins-at : (state : List ℕ) {w : TrieWalk} {t : List ℕ} → length state ≡ stateLong → w ≡ atStart most → t ≡ stateBytes w → _≡_ {A = ℕ × List ℕ} (itemTold, t) (started states state (begun (atStart most)))
 begins-at state l e f = begins states begun state l refl (ap begun e) (two refl f)
 
 -- ---- a step
@@ -34,23 +34,23 @@ nine visits more = refl
 nine visits end = refl
 nine visits (refused n) = refl
 
-module _ (s : List ℕ) (limit : ℕ) (state name told : List ℕ) where
-  pub told-unfit : (length told ≡ itemLong → ⊥) → _≡_ {A = ℕ × List ℕ × List ℕ × List ℕ} (unfit, state, name, told) (stepped s limit state name told)
+module _ (s : List ℕ) (limit : ℕ) (state name item : List ℕ) where
+  pub item-unfit : (length item ≡ itemLong → ⊥) → _≡_ {A = ℕ × List ℕ × List ℕ × List ℕ} (unfit, state, name, item) (stepped s limit state name item)
   unfolding stepped
-  told-unfit h = rw (ne-eqb (length told) itemLong h)
+  item-unfit h = rw (ne-eqb (length item) itemLong h)
 
-  module _ (l : length told ≡ itemLong) where
-    pub by-state : {b : Bool} → holds state ≡ b → stepped s limit state name told ≡ cond b (stepTold (call s limit (stateAt state) name)) (unfit, state, name, told)
+  module _ (l : length item ≡ itemLong) where
+    pub by-state : {b : Bool} → holds state ≡ b → stepped s limit state name item ≡ cond b (stepTold (seen (call most s limit (stateAt state) name))) (unfit, state, name, item)
     unfolding stepped
-    by-state e = rw (eq-eqb (length told) itemLong l, e)
+    by-state e = rw (eq-eqb (length item) itemLong l, e)
 
-    pub state-unfit : holds state ≡ false → _≡_ {A = ℕ × List ℕ × List ℕ × List ℕ} (unfit, state, name, told) (stepped s limit state name told)
+    pub state-unfit : holds state ≡ false → _≡_ {A = ℕ × List ℕ × List ℕ × List ℕ} (unfit, state, name, item) (stepped s limit state name item)
     state-unfit e = sym (by-state e)
 
-    module _ (h : holds state ≡ true) {w : TrieWalk} (e : w ≡ stateAt state) {r : Reply} {b : List ℕ} (f : _≡_ {A = Reply × List ℕ} (r, b) (call s limit w name)) where
-      pub stepped-as : {n : ℕ} {t ws i : List ℕ} → t ≡ stateBytes (r .walk) → i ≡ written ws told → ws ≡ itemWords (r .visits) (r .answer) → n ≡ answerTold (r .answer) → _≡_ {A = ℕ × List ℕ × List ℕ × List ℕ} (n, t, b, i) (stepped s limit state name told)
+    module _ (h : holds state ≡ true) {w : TrieWalk} (e : w ≡ stateAt state) {r : Reply} {b : List ℕ} (f : _≡_ {A = Reply × List ℕ} (r, b) (seen (call most s limit w name))) where
+      pub stepped-as : {n : ℕ} {t ws i : List ℕ} → t ≡ stateBytes (r .walk) → i ≡ written ws item → ws ≡ itemWords (r .visits) (r .answer) → n ≡ answerTold (r .answer) → _≡_ {A = ℕ × List ℕ × List ℕ × List ℕ} (n, t, b, i) (stepped s limit state name item)
       stepped-as {ws = ws} p q g m =
-          let o = over told ws (itemWords (r .visits) (r .answer)) q g (l ∙ sym (nine (r .visits) (r .answer))) in
+          let o = over item ws (itemWords (r .visits) (r .answer)) q g (l ∙ sym (nine (r .visits) (r .answer))) in
           (λ j. (m j, p j, b, o j))
-          ∙ ap stepTold (f ∙ ap (λ (v : TrieWalk). call s limit v name) e)
+          ∙ ap stepTold (f ∙ ap (λ (v : TrieWalk). seen (call most s limit v name)) e)
           ∙ sym (by-state h)

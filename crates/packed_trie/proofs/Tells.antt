@@ -4,11 +4,11 @@ use mathlib.Core.Path.{_≡_, sym, ap, _∙_}
 use mathlib.Core.List.{List, _∷_}
 use Rattle.packed_trie.specs.Packed.{targetWords, itemWords, answerTold}
 use Rattle.trie.specs.Call.{export}
-use Rattle.trie.specs.Exported.{targetTold, exportTold}
+use Rattle.nodes.specs.Exported.{targetTold, exportTold}
 use Rattle.trie.specs.Told as trie
 use Rattle.trie.specs.declared.TrieAnswer.{TrieAnswer}
-use Rattle.trie.specs.declared.export.Export.{Export}
-use Rattle.trie.specs.declared.export.ExportData.{ExportData}
+use Rattle.nodes.specs.declared.export.Export.{Export}
+use Rattle.nodes.specs.declared.export.ExportData.{ExportData}
 
 pub tells-number : {r q : TrieAnswer} {n : ℕ} → r ≡ q → n ≡ answerTold (trie.answerTold q) → n ≡ answerTold (trie.answerTold r)
 tells-number e f = f ∙ ap (λ (a : TrieAnswer). answerTold (trie.answerTold a)) (sym e)

@@ -6,25 +6,26 @@ use mathlib.Core.List.{List, [], _∷_, map}
 use mathlib.Core.Option.{Option, none, some}
 use lib.Dec.{eqb}
 use lib.ListN.{length, take}
-use Rattle.packed_trie.specs.Packed.{states, exportWords, stepped}
+use Rattle.nodes.specs.Symbols.{Symbol, Ending, atEnd, atRefusal}
+use Rattle.packed_trie.specs.Packed.{most, states, exportWords, stepped}
 use Rattle.packing.specs.Boundary.{itemTold, endTold, moreTold, started}
 use Rattle.packing.specs.Words.{wordAt, wordsFrom}
 use Rattle.runs.specs.Runs.{begun}
 use Rattle.trie.specs.Call.{atStart}
-use Rattle.trie.specs.Joined.{Symbol, Ending, atEnd, atRefusal, Joined}
+use Rattle.trie.specs.Joined.{Joined}
 
 -- an export: its name, and the words of the item behind the visits
-pub record Entry : Type 0 where
+pub record SymbolWords : Type 0 where
   pub name : List ℕ
   pub words : List ℕ
 
 -- the exports, the sum of the visits, and the answer that ended it, if one has
 pub record Said : Type 0 where
-  pub exports : List Entry
+  pub exports : List SymbolWords
   pub visits : ℕ
   pub ending : Option ℕ
 
-abbrev pub said : List Entry → ℕ → Option ℕ → Said
+abbrev pub said : List SymbolWords → ℕ → Option ℕ → Said
 said exports visits ending = record { exports = exports; visits = visits; ending = ending }
 
 -- ---- by answers and bytes
@@ -33,13 +34,13 @@ said exports visits ending = record { exports = exports; visits = visits; ending
 abbrev pub visitsOf : (item : List ℕ) → ℕ
 visitsOf item = wordAt item 0
 
-abbrev pub entryOf : (name item : List ℕ) → Entry
-entryOf name item = record { name = take (wordAt item 1) name; words = wordsFrom item 1 8 }
+abbrev pub symbolWords : (name item : List ℕ) → SymbolWords
+symbolWords name item = record { name = take (wordAt item 1) name; words = wordsFrom item 1 8 }
 
 -- a call that answered n and left these bytes, and then the rest
-abbrev pub hear : (n : ℕ) (name item : List ℕ) → (rest : Said) → Said
-hear n name item rest =
-    cond (eqb n itemTold) (said (entryOf name item ∷ rest .exports) (visitsOf item + rest .visits) (rest .ending))
+abbrev pub joinThrough : (n : ℕ) (name item : List ℕ) → (rest : Said) → Said
+joinThrough n name item rest =
+    cond (eqb n itemTold) (said (symbolWords name item ∷ rest .exports) (visitsOf item + rest .visits) (rest .ending))
     (cond (eqb n moreTold) (said (rest .exports) (visitsOf item + rest .visits) (rest .ending))
     (said [] (visitsOf item) (some n)))
 
@@ -49,15 +50,15 @@ callsThrough s state name item [] = said [] 0 none
 callsThrough s state name item (k ∷ ks) =
     let p = stepped s k state name item in
     let rest = callsThrough s (p .1) (p .2) (p .3) ks in
-    hear (p .0) (p .2) (p .3) rest
+    joinThrough (p .0) (p .2) (p .3) rest
 
 -- from a start, which is lent the state too
 abbrev pub throughStart : (s state name item limits : List ℕ) → Said
-throughStart s state name item limits = callsThrough s (started states state (begun atStart) .1) name item limits
+throughStart s state name item limits = callsThrough s (started states state (begun (atStart most)) .1) name item limits
 
 -- ---- of the walk
 
-abbrev pub symbolTold : Symbol → Entry
+abbrev pub symbolTold : Symbol → SymbolWords
 symbolTold x = record { name = x .name; words = exportWords (length (x .name)) (x .export) }
 
 abbrev pub endingTold : Option Ending → Option ℕ

@@ -4,21 +4,38 @@ use mathlib.Core.Bool.{Bool, cond, _&&_}
 use mathlib.Core.List.{List, [], _∷_, _++_}
 use lib.Dec.{eqb, leb}
 use lib.ListN.{length, drop}
+use Rattle.nodes.specs.Exported.{Target, regular, reexport, stubAndResolver, Exported}
 use Rattle.packing.specs.Boundary.{States, itemTold, endTold, moreTold, unfit}
 use Rattle.packing.specs.Fields.{flag, isSet, bit}
 use Rattle.packing.specs.Words.{wordAt, wordsFrom, bytesOf}
-use Rattle.trie.specs.Call.{Answer, export, more, end, refused, Reply, call}
-use Rattle.trie.specs.Exported.{Target, regular, reexport, stubAndResolver, Exported}
-use Rattle.trie.specs.Frames.{most}
+use Rattle.trie.specs.Call.{Answer, export, more, end, refused, Reply, seen, call}
 use Rattle.trie.specs.declared.TrieWalk.{TrieWalk}
 
--- ---- states: the words depth, begun, ended, places, offsets, lengths; behind them a byte for each node, the children left
+-- ---- states: words, and behind them a byte for each node
+
+-- so many nodes may be open
+abbrev pub most : ℕ
+most = 256
+
+-- the words are depth, ended, and for each node its place, its offset and the length of its name; of these three the first word
+abbrev pub places : ℕ
+places = 2
+
+abbrev pub offsets : ℕ
+offsets = places + most
+
+abbrev pub lengths : ℕ
+lengths = offsets + most
+
+-- the bytes are the children left, and where the first of them is
+abbrev pub left : ℕ
+left = 8 * (lengths + most)
 
 abbrev pub stateLong : ℕ
-stateLong = 8 * (3 + 3 * most) + most
+stateLong = left + most
 
 abbrev pub stateWords : TrieWalk → List ℕ
-stateWords w = w .depth ∷ bit (w .begun) ∷ bit (w .ended) ∷ w .places ++ w .offsets ++ w .lengths
+stateWords w = w .depth ∷ bit (w .ended) ∷ w .places ++ w .offsets ++ w .lengths
 
 unfoldable pub stateBytes : TrieWalk → List ℕ
 stateBytes w = bytesOf (stateWords w) ++ w .left
@@ -27,17 +44,16 @@ abbrev pub stateAt : List ℕ → TrieWalk
 stateAt s =
     record {
       depth = wordAt s 0;
-      begun = isSet (wordAt s 1);
-      ended = isSet (wordAt s 2);
-      places = wordsFrom s 3 most;
-      offsets = wordsFrom s (3 + most) most;
-      lengths = wordsFrom s (3 + 2 * most) most;
-      left = drop (8 * (3 + 3 * most)) s;
+      ended = isSet (wordAt s 1);
+      places = wordsFrom s places most;
+      offsets = wordsFrom s offsets most;
+      lengths = wordsFrom s lengths most;
+      left = drop left s;
     }
 
--- bytes are those of a state where they are so many, and the flags are 0 or 1
+-- bytes are those of a state where they are so many, and the flag is 0 or 1
 unfoldable pub holds : List ℕ → Bool
-holds s = eqb (length s) stateLong && (leb (wordAt s 1) flag && leb (wordAt s 2) flag)
+holds s = eqb (length s) stateLong && leb (wordAt s 1) flag
 
 abbrev pub states : States TrieWalk
 states =
@@ -83,6 +99,6 @@ abbrev pub stepTold : Reply × List ℕ → ℕ × List ℕ × List ℕ × List 
 stepTold p =
     (answerTold (p .0 .answer), stateBytes (p .0 .walk), p .1, bytesOf (itemWords (p .0 .visits) (p .0 .answer)))
 
-unfoldable pub stepped : (s : List ℕ) (limit : ℕ) (state name told : List ℕ) → ℕ × List ℕ × List ℕ × List ℕ
-stepped s limit state name told =
-    cond (eqb (length told) itemLong && holds state) (stepTold (call s limit (stateAt state) name)) (unfit, state, name, told)
+unfoldable pub stepped : (s : List ℕ) (limit : ℕ) (state name item : List ℕ) → ℕ × List ℕ × List ℕ × List ℕ
+stepped s limit state name item =
+    cond (eqb (length item) itemLong && holds state) (stepTold (seen (call most s limit (stateAt state) name))) (unfit, state, name, item)

@@ -3,26 +3,45 @@ ghost use mathlib.Core.Path.{_≡_};
 ghost use Prim.Native.Nat.{_+_, _*_, _≤_};
 ghost use lib.ListN.{length};
 ghost use lib.Seq.{sets};
+ghost use Rattle.nodes.specs.Exported.{exportTold};
 ghost use Rattle.packing.specs.Boundary.{started};
 ghost use Rattle.packing.specs.Words.{wordsFrom, bytesOf};
 ghost use Rattle.runs.specs.Runs.{begun};
 ghost use Rattle.trie.specs.Call.{export, atStart};
-ghost use Rattle.trie.specs.Exported.{exportTold};
 ghost use Rattle.trie.specs.Told as trie;
-ghost use Rattle.packed_trie.specs.Packed.{stateBytes, holds, stateAt, states, itemWords, answerTold, stepped};
+ghost use Rattle.packed_trie.specs.Packed.{most, stateLong, stateBytes, holds, stateAt, states, itemWords, answerTold, stepped};
+use nodes::export::Export;
+use nodes::export::ExportData;
 use packing::bit;
 use packing::word;
 use packing::write;
 use trie::TrieAnswer;
 use trie::TrieWalk;
-use trie::export::Export;
-use trie::export::ExportData;
+
+// The words of a state: depth, ended, and for each node its place, its offset and the length of its
+// name; of these three the index of the first word. Behind the words there is a byte for each node, its
+// children left.
+const NODES: usize = 256;
+
+const PLACES: usize = 2;
+
+const OFFSETS: usize = PLACES + NODES;
+
+const LENGTHS: usize = OFFSETS + NODES;
+
+const LEFT: usize = 8 * (LENGTHS + NODES);
+
+const STATE: usize = LEFT + NODES;
+
+const ITEM: usize = 9;
+
+const ITEM_BYTES: usize = 8 * ITEM;
 
 // A walk over a trie begins.
 pub fn start(state: &mut [u8]) -> u64
-    ensures { λ r. ⌜ (r, now (state .exit)) ≡ started states (now (state .entry)) (begun atStart) ⌝ }
+    ensures { λ r. ⌜ (r, now (state .exit)) ≡ started states (now (state .entry)) (begun (atStart most)) ⌝ }
 {
-    if state.len() != 6424 {
+    if state.len() != STATE {
         return 19;
     }
     keep(TrieWalk::start(), state);
@@ -33,10 +52,10 @@ pub fn start(state: &mut [u8]) -> u64
 pub fn step(s: &[u8], state: &mut [u8], name: &mut [u8], limit: u64, item: &mut [u8]) -> u64
     ensures { λ r. ⌜ (r, now (state .exit), now (name .exit), now (item .exit)) ≡ stepped (now (s .entry)) limit (now (state .entry)) (now (name .entry)) (now (item .entry)) ⌝ }
 {
-    if item.len() != 72 {
+    if item.len() != ITEM_BYTES {
         return 19;
     }
-    if fits(state) {
+    if is_state(state) {
         let told = held(state).step(s, name, limit);
         let answer = told.answer;
         let walk = told.walk;
@@ -49,44 +68,40 @@ pub fn step(s: &[u8], state: &mut [u8], name: &mut [u8], limit: u64, item: &mut 
 }
 
 // Whether the bytes are those of a state.
-fn fits(s: &[u8]) -> bool
+fn is_state(s: &[u8]) -> bool
     ensures { λ r. ⌜ r ≡ holds (now (s .entry)) ⌝ }
 {
-    if s.len() != 6424 {
+    if s.len() != STATE {
         return false;
     }
-    if word(s, 1) > 1 {
-        return false;
-    }
-    word(s, 2) <= 1
+    word(s, 1) <= 1
 }
 
 // The state that the bytes are. Its arrays are filled where they lie.
 fn held(s: &[u8]) -> TrieWalk
-    requires { ⌜ length (now s) ≡ 6424 ⌝ }
+    requires { ⌜ length (now s) ≡ stateLong ⌝ }
     ensures { λ r. ⌜ r ≡ stateAt (now (s .entry)) ⌝ }
 {
     let mut w = TrieWalk::start();
-    fill(s, 3, &mut w.places);
-    fill(s, 259, &mut w.offsets);
-    fill(s, 515, &mut w.lengths);
-    let mut left = [0; 256];
-    copy(&s[6168..6424], &mut left);
+    fill(s, PLACES, &mut w.places);
+    fill(s, OFFSETS, &mut w.offsets);
+    fill(s, LENGTHS, &mut w.lengths);
+    let mut left = [0; NODES];
+    copy(&s[LEFT..STATE], &mut left);
     w.left = left;
     w.depth = word(s, 0) as usize;
-    w.begun = word(s, 1) == 1;
-    w.ended = word(s, 2) == 1;
+    w.ended = word(s, 1) == 1;
     w
 }
 
 // The array is filled with the words from an index on.
-fn fill(s: &[u8], first: usize, words: &mut [u64; 256])
-    requires { ⌜ length (now words) ≡ 256 ⌝ }
-    requires { ⌜ 8 * (first + 256) ≤ length (now s) ⌝ }
-    ensures { λ _. ⌜ now (words .exit) ≡ wordsFrom (now (s .entry)) first 256 ⌝ }
+fn fill(s: &[u8], first: usize, words: &mut [u64; NODES])
+    requires { ⌜ length (now words) ≡ most ⌝ }
+    requires { ⌜ 8 * (first + most) ≤ length (now s) ⌝ }
+    ensures { λ _. ⌜ now (words .exit) ≡ wordsFrom (now (s .entry)) first most ⌝ }
 {
     let mut i: usize = 0;
-    while i < 256 {
+    while i < NODES {
         words[i] = word(s, first + i);
         i += 1;
     }
@@ -105,27 +120,28 @@ fn copy(from: &[u8], to: &mut [u8])
 
 // The state is written: its words, and behind them the bytes.
 fn keep(w: TrieWalk, state: &mut [u8])
-    requires { ⌜ length (now state) ≡ 6424 ⌝ }
+    requires { ⌜ length (now state) ≡ stateLong ⌝ }
     ensures { λ _. ⌜ now (state .exit) ≡ stateBytes w ⌝ }
 {
-    put(&[w.depth as u64, bit(w.begun), bit(w.ended)], state, 0);
-    put(&w.places, state, 24);
-    put(&w.offsets, state, 2072);
-    put(&w.lengths, state, 4120);
-    copy(&w.left, &mut state[6168..6424]);
+    put(&[w.depth as u64, bit(w.ended)], state, 0);
+    put(&w.places, state, PLACES);
+    put(&w.offsets, state, OFFSETS);
+    put(&w.lengths, state, LENGTHS);
+    copy(&w.left, &mut state[LEFT..STATE]);
 }
 
-// The words are written at a place.
-fn put(words: &[u64], state: &mut [u8], at: usize)
-    requires { ⌜ at + 8 * length (now words) ≤ length (now state) ⌝ }
-    ensures { λ _. ⌜ now (state .exit) ≡ sets (now (state .entry)) at (bytesOf (now (words .entry))) ⌝ }
+// The words are written from an index on.
+fn put(words: &[u64], state: &mut [u8], first: usize)
+    requires { ⌜ 8 * (first + length (now words)) ≤ length (now state) ⌝ }
+    ensures { λ _. ⌜ now (state .exit) ≡ sets (now (state .entry)) (8 * first) (bytesOf (now (words .entry))) ⌝ }
 {
+    let at = 8 * first;
     let end = at + 8 * words.len();
     write(words, &mut state[at..end]);
 }
 
 // The item of an answer: its words.
-fn words(visits: u64, answer: TrieAnswer) -> [u64; 9]
+fn words(visits: u64, answer: TrieAnswer) -> [u64; ITEM]
     ensures { λ r. ⌜ r ≡ itemWords visits (trie.answerTold answer) ⌝ }
 {
     match answer {
@@ -136,7 +152,7 @@ fn words(visits: u64, answer: TrieAnswer) -> [u64; 9]
     }
 }
 
-fn exported(visits: u64, length: u64, x: Export) -> [u64; 9]
+fn exported(visits: u64, length: u64, x: Export) -> [u64; ITEM]
     ensures { λ r. ⌜ r ≡ itemWords visits (export length (exportTold x)) ⌝ }
 {
     let flags = x.flags as u64;

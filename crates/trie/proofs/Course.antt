@@ -30,7 +30,7 @@ use Rattle.trie.specs.declared.TrieWalk.{TrieWalk}
 
 pub data Next : Type 0 where
   over : Next
-  stopped : (number : ℕ) → Next
+  failed : (number : ℕ) → Next
   reached : (len : ℕ) → Terminal → TrieWalk → (buffer : List ℕ) → Next
 
 -- a node is open
@@ -47,15 +47,15 @@ has-begun w z e = z (ap (stillOpen (w .left)) e)
 
 module _ (most : ℕ) (s : List ℕ) where
   abbrev pub childNext : TrieWalk → List ℕ → Child → Next
-  childNext w b (Refused e) = stopped (numberOf e)
+  childNext w b (Refused e) = failed (numberOf e)
   childNext w b (Found e n) =
-      cond (leb most (w .depth)) (stopped (numberOf TooManyOpenNodes))
+      cond (leb most (w .depth)) (failed (numberOf TooManyOpenNodes))
       (reached (childName w e) (n .terminal) (childOpened w e n) (edgePut s w e b))
 
   abbrev pub rootNext : TrieWalk → List ℕ → NodeRead → Next
-  rootNext w b node.Fault = stopped (numberOf FaultyNode)
+  rootNext w b node.Fault = failed (numberOf FaultyNode)
   rootNext w b (node.Found n) =
-      cond (leb most 0) (stopped (numberOf TooManyOpenNodes)) (reached 0 (n .terminal) (rooted w n) b)
+      cond (leb most 0) (failed (numberOf TooManyOpenNodes)) (reached 0 (n .terminal) (rooted w n) b)
 
   -- of a walk whose finished nodes are closed
   abbrev pub openNext : TrieWalk → List ℕ → Next
@@ -93,19 +93,19 @@ module _ (most : ℕ) (s : List ℕ) where
 module _ (most : ℕ) (s : List ℕ) (w : TrieWalk) (b : List ℕ) where
   pub record Cases (Q : Next → Type 0) : Type 0 where
     pub done : Begun w → stillOpen (w .left) (w .depth) ≡ 0 → Q over
-    pub bad : Unfinished w → (x : Refusal) → childOf s (length b) (closed w) ≡ Refused x → Q (stopped (numberOf x))
+    pub bad : Unfinished w → (x : Refusal) → childOf s (length b) (closed w) ≡ Refused x → Q (failed (numberOf x))
     pub full : Unfinished w → (e : Edge) (n : Node) → childOf s (length b) (closed w) ≡ Found e n → most ≤ stillOpen (w .left) (w .depth)
-        → Q (stopped (numberOf TooManyOpenNodes))
+        → Q (failed (numberOf TooManyOpenNodes))
     pub child : Unfinished w → (e : Edge) (n : Node) → childOf s (length b) (closed w) ≡ Found e n → stillOpen (w .left) (w .depth) < most
         → Q (reached (childName (closed w) e) (n .terminal) (childOpened (closed w) e n) (edgePut s (closed w) e b))
-    pub none : w .depth ≡ 0 → nodeAt s 0 ≡ node.Fault → Q (stopped (numberOf FaultyNode))
-    pub shut : w .depth ≡ 0 → (n : Node) → nodeAt s 0 ≡ node.Found n → most ≤ 0 → Q (stopped (numberOf TooManyOpenNodes))
+    pub none : w .depth ≡ 0 → nodeAt s 0 ≡ node.Fault → Q (failed (numberOf FaultyNode))
+    pub shut : w .depth ≡ 0 → (n : Node) → nodeAt s 0 ≡ node.Found n → most ≤ 0 → Q (failed (numberOf TooManyOpenNodes))
     pub root : w .depth ≡ 0 → (n : Node) → nodeAt s 0 ≡ node.Found n → 0 < most → Q (reached 0 (n .terminal) (rooted w n) b)
 
   module _ (Q : Next → Type 0) (c : Cases Q) where
     depth-by : Unfinished w → (e : Edge) (n : Node) → childOf s (length b) (closed w) ≡ Found e n
         → (t : Bool) → leb most (stillOpen (w .left) (w .depth)) ≡ t
-        → Q (cond t (stopped (numberOf TooManyOpenNodes)) (reached (childName (closed w) e) (n .terminal) (childOpened (closed w) e n) (edgePut s (closed w) e b)))
+        → Q (cond t (failed (numberOf TooManyOpenNodes)) (reached (childName (closed w) e) (n .terminal) (childOpened (closed w) e n) (edgePut s (closed w) e b)))
     depth-by z e n f true q = c .full z e n f (leb-true most (stillOpen (w .left) (w .depth)) q)
     depth-by z e n f false q = c .child z e n f (leb-false most (stillOpen (w .left) (w .depth)) q)
 
@@ -121,7 +121,7 @@ module _ (most : ℕ) (s : List ℕ) (w : TrieWalk) (b : List ℕ) where
     root-by y node.Fault e = c .none y e
     root-by y (node.Found n) e = by (leb most 0) refl
       where
-        by : (t : Bool) → leb most 0 ≡ t → Q (cond t (stopped (numberOf TooManyOpenNodes)) (reached 0 (n .terminal) (rooted w n) b))
+        by : (t : Bool) → leb most 0 ≡ t → Q (cond t (failed (numberOf TooManyOpenNodes)) (reached 0 (n .terminal) (rooted w n) b))
         by true q = c .shut y n e (leb-true most 0 q)
         by false q = c .root y n e (leb-false most 0 q)
 
@@ -140,7 +140,7 @@ module _ (most : ℕ) (s : List ℕ) where
   -- from the walk w and the buffer b on: n nodes were visited before, and k more may be
   pub data Course (given : TrieWalk) : (k n : ℕ) → TrieWalk → List ℕ → Outcome → Type 0 where
     ends : {k n : ℕ} {w : TrieWalk} {b : List ℕ} → next most s w b ≡ over → stillOpen (w .left) (w .depth) ≡ 0 → Course given k n w b (replied end (marked (closed w)) n b)
-    refuses : {k n : ℕ} {w v : TrieWalk} {b : List ℕ} {x : ℕ} → next most s w b ≡ stopped x → atDepth (w .depth) v ≡ w → Course given k n w b (refusing x given v n b)
+    refuses : {k n : ℕ} {w v : TrieWalk} {b : List ℕ} {x : ℕ} → next most s w b ≡ failed x → atDepth (w .depth) v ≡ w → Course given k n w b (refusing x given v n b)
     waits : {n : ℕ} {w : TrieWalk} {b : List ℕ} → Course given 0 n w b (replied more w n b)  -- a limit of 0 closes nothing
     limits : {n : ℕ} {w : TrieWalk} {b : List ℕ} → Unfinished w → Course given 0 n w b (replied more (closed w) n b)
     exports : {k n len : ℕ} {w v : TrieWalk} {b c : List ℕ} {x : Export} → next most s w b ≡ reached len (terminal.Export x) v c
@@ -164,7 +164,7 @@ module _ (most : ℕ) (s : List ℕ) where
       child-course u d (Found e x) q = by (leb most (u .depth)) q
         where
           by : (t : Bool)
-              → next most s w b ≡ cond t (stopped (numberOf TooManyOpenNodes)) (reached (childName u e) (x .terminal) (childOpened u e x) (edgePut s u e b))
+              → next most s w b ≡ cond t (failed (numberOf TooManyOpenNodes)) (reached (childName u e) (x .terminal) (childOpened u e x) (edgePut s u e b))
               → Course given (suc k) n w b (cond t (refusing (numberOf TooManyOpenNodes) given u n b) (visited on (childName u e) (n + 1) (childOpened u e x) (edgePut s u e b) (x .terminal)))
           by true q = refuses q d
           by false q = visit-course (childName u e) _ _ (λ z. omega (arith, z)) (x .terminal) q
@@ -194,7 +194,7 @@ module _ (most : ℕ) (s : List ℕ) where
     root-course k b node.Fault q = refuses q refl
     root-course k b (node.Found n) q = by (leb most 0) q
       where
-        by : (t : Bool) → next most s given b ≡ cond t (stopped (numberOf TooManyOpenNodes)) (reached 0 (n .terminal) (rooted given n) b)
+        by : (t : Bool) → next most s given b ≡ cond t (failed (numberOf TooManyOpenNodes)) (reached 0 (n .terminal) (rooted given n) b)
             → Course given (suc k) 0 given b (cond t (refusing (numberOf TooManyOpenNodes) given given 0 b) (visited (onward most s given k) 0 1 (rooted given n) b (n .terminal)))
         by true q = refuses q refl
         by false q = visit-course (onward most s given k) (onward-course k) 0 given b 0 _ b (λ z. omega (arith, z)) (n .terminal) q
@@ -261,7 +261,7 @@ halts (refused number) = true
 
 abbrev pub IfReached : (TrieWalk → List ℕ → Type 0) → Next → Type 0
 IfReached P over = Unit {0}
-IfReached P (stopped number) = Unit {0}
+IfReached P (failed number) = Unit {0}
 IfReached P (reached len t v c) = P v c
 
 module _ (most : ℕ) (s : List ℕ) (P : TrieWalk → List ℕ → Type 0) (visit-keeps : (w : TrieWalk) (b : List ℕ) → P w b → IfReached P (next most s w b))

@@ -14,7 +14,7 @@ use Rattle.refusal.specs.declared.Refusal.the-variants.{FaultyNode, TooManyOpen
 use Rattle.runs.proofs.Walks.{then-stops}
 use Rattle.runs.specs.Runs.{Run, stops, fails, gives, _then_}
 use Rattle.trie.proofs.Ahead.{Nested, nested-still, nested-same, Sized, Same, aheadAt, ahead-same, ahead-still, refused-ahead, full-ahead, after, name-put, opened-ahead, sized-after, nested-after}
-use Rattle.trie.proofs.Course.{Next, over, stopped, reached, Begun, Unfinished, has-begun, next, next-by, IfReached}
+use Rattle.trie.proofs.Course.{Next, over, failed, reached, Begun, Unfinished, has-begun, next, next-by, IfReached}
 use Rattle.trie.proofs.Fits.{Sound, sound-closed, sound-next, read, within}
 use Rattle.trie.proofs.Visits.{has-child}
 use Rattle.trie.specs.Call.{atStart, closed, onTop, rooted, childOf, childName, childOpened, edgePut}
@@ -50,7 +50,7 @@ module _ (most : ℕ) (s : List ℕ) (room : ℕ) where
   -- a listing by what comes next
   abbrev pub Lists : Run Visit → Next → Type 0
   Lists l over = l ≡ stops
-  Lists l (stopped number) = l ≡ fails number
+  Lists l (failed number) = l ≡ fails number
   Lists l (reached len t v c) = (offset : ℕ) × (l ≡ gives (visit (take len c) offset t) (ahead v c))
 
   module _ (w : TrieWalk) (b : List ℕ) (g : Good most s room w b) where

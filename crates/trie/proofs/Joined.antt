@@ -7,40 +7,40 @@ use mathlib.Core.Option.{some}
 use native.Mathlib.Omega.{arith}
 use lib.ListN.{length, take}
 use Rattle.runs.specs.Runs.{Run, stops, fails, gives}
-use Rattle.trie.proofs.Course.{Next, over, stopped, reached, next, IfReached, Course, call-course, halts, course-keeps}
+use Rattle.trie.proofs.Course.{Next, over, failed, reached, next, IfReached, Course, call-course, halts, course-keeps}
 use Rattle.trie.proofs.Course as course
 use Rattle.trie.proofs.Fits.{sound-ranged}
 use Rattle.trie.proofs.Good.{Good, ahead, Lists, good-closed, next-lists, good-next, good-start}
-use Rattle.trie.proofs.Says.{Says, says-over, says-stopped, says-reached, says-one, course-joins, calls-say}
+use Rattle.trie.proofs.Says.{Says, says-over, says-failed, says-reached, says-one, course-joins, calls-say}
 use Rattle.trie.specs.Call.{atStart, Answer, export, more, end, refused, Outcome, call}
 use Rattle.nodes.specs.Symbols.{Symbol, symbol, Ending, atEnd, atRefusal, withSymbol, exportsIn, visitsIn, endingOf}
-use Rattle.trie.specs.Joined.{Joined, joined, join, calls, heard}
+use Rattle.trie.specs.Joined.{Joined, joined, join, calls, joinedIn}
 use Rattle.nodes.specs.Listing.{Visit, visit, listing}
 use Rattle.trie.specs.declared.TrieWalk.{TrieWalk}
 
 module _ (most : ℕ) (s : List ℕ) (room : ℕ) where
   -- ---- the visits from a state on say what it has ahead
 
-  says-ahead : (l : Run Visit) (w : TrieWalk) (b : List ℕ) → Good most s room w b → ahead most s room w b ≡ l → Says most s w b (heard l)
+  says-ahead : (l : Run Visit) (w : TrieWalk) (b : List ℕ) → Good most s room w b → ahead most s room w b ≡ l → Says most s w b (joinedIn l)
   unfolding exportsIn visitsIn endingOf
   says-ahead stops w b g e = by (next most s w b) refl (next-lists most s room w b g)
     where
-      by : (x : Next) → next most s w b ≡ x → Lists most s room (ahead most s room w b) x → Says most s w b (heard stops)
+      by : (x : Next) → next most s w b ≡ x → Lists most s room (ahead most s room w b) x → Says most s w b (joinedIn stops)
       by over f h = says-over f
-      by (stopped x) f h = let z : _≡_ {A = ℕ} 0 1 = cc in absurd (omega arith)
+      by (failed x) f h = let z : _≡_ {A = ℕ} 0 1 = cc in absurd (omega arith)
       by (reached len t v c) f h = let q = h .1 in let z : _≡_ {A = ℕ} 0 1 = cc in absurd (omega arith)
   says-ahead (fails y) w b g e = by (next most s w b) refl (next-lists most s room w b g)
     where
-      by : (x : Next) → next most s w b ≡ x → Lists most s room (ahead most s room w b) x → Says most s w b (heard (fails y))
+      by : (x : Next) → next most s w b ≡ x → Lists most s room (ahead most s room w b) x → Says most s w b (joinedIn (fails y))
       by over f h = let z : _≡_ {A = ℕ} 0 1 = cc in absurd (omega arith)
-      by (stopped x) f h = let q : x ≡ y = cc in says-stopped (f ∙ ap stopped q)
+      by (failed x) f h = let q : x ≡ y = cc in says-failed (f ∙ ap failed q)
       by (reached len t v c) f h = let q = h .1 in let z : _≡_ {A = ℕ} 0 1 = cc in absurd (omega arith)
   says-ahead (gives u l) w b g e = by (λ v c. says-ahead l v c) (next most s w b) refl (next-lists most s room w b g) (good-next most s room w b g)
     where
-      by : ((v : TrieWalk) (c : List ℕ) → Good most s room v c → ahead most s room v c ≡ l → Says most s v c (heard l))
-          → (x : Next) → next most s w b ≡ x → Lists most s room (ahead most s room w b) x → IfReached (Good most s room) (next most s w b) → Says most s w b (heard (gives u l))
+      by : ((v : TrieWalk) (c : List ℕ) → Good most s room v c → ahead most s room v c ≡ l → Says most s v c (joinedIn l))
+          → (x : Next) → next most s w b ≡ x → Lists most s room (ahead most s room w b) x → IfReached (Good most s room) (next most s w b) → Says most s w b (joinedIn (gives u l))
       by ih over f h k = let z : _≡_ {A = ℕ} 0 1 = cc in absurd (omega arith)
-      by ih (stopped x) f h k = let z : _≡_ {A = ℕ} 0 1 = cc in absurd (omega arith)
+      by ih (failed x) f h k = let z : _≡_ {A = ℕ} 0 1 = cc in absurd (omega arith)
       by ih (reached len t v c) f h k =
           let q = h .1 in
           let m : ahead most s room v c ≡ l = cc in
@@ -61,9 +61,9 @@ module _ (most : ℕ) (s : List ℕ) (room : ℕ) where
     good-after z = course-keeps most s (Good most s room) (good-next most s room) (λ w b g z. good-closed most s room w b g) course-is g z
 
     -- with what is ahead after it, a call says what was ahead before
-    joins-ahead : join (p .reply .visits) (p .buffer) (heard (ahead most s room (p .reply .walk) (p .buffer))) (p .reply .answer) ≡ heard (ahead most s room w b)
+    joins-ahead : join (p .reply .visits) (p .buffer) (joinedIn (ahead most s room (p .reply .walk) (p .buffer))) (p .reply .answer) ≡ joinedIn (ahead most s room w b)
     joins-ahead =
-        let j = heard (ahead most s room (p .reply .walk) (p .buffer)) in
+        let j = joinedIn (ahead most s room (p .reply .walk) (p .buffer)) in
         let t = course-joins most s j course-is (λ z. says-ahead (ahead most s room (p .reply .walk) (p .buffer)) (p .reply .walk) (p .buffer) (good-after z) refl) in
         let v : 0 + t .said .visits ≡ t .said .visits = omega arith in
         t .same ∙ (λ i. joined (t .said .exports) (v i) (t .said .ending)) ∙ says-one most s (t .says) (says-ahead (ahead most s room w b) w b g refl)
@@ -82,7 +82,7 @@ module _ (most : ℕ) (s : List ℕ) (room : ℕ) where
   calls-start [] w b g = (exportsIn (ahead most s room w b), refl)
   calls-start (k ∷ ks) w b g =
       let c = call most s k w b in
-      let r = starts-by (c .reply .answer) (c .reply .visits) (c .buffer) (heard (ahead most s room (c .reply .walk) (c .buffer))) (calls most s (c .reply .walk) (c .buffer) ks)
+      let r = starts-by (c .reply .answer) (c .reply .visits) (c .buffer) (joinedIn (ahead most s room (c .reply .walk) (c .buffer))) (calls most s (c .reply .walk) (c .buffer) ks)
       (λ z. calls-start ks (c .reply .walk) (c .buffer) (good-after k w b g z)) in
       (r .0, sym (ap (λ (j : Joined). j .exports) (joins-ahead k w b g)) ∙ r .1)
 
@@ -115,11 +115,11 @@ module _ (most : ℕ) (s : List ℕ) (room : ℕ) where
   unfolding nonzero
   fewer zero ks w b g h z =
       let c = call most s zero w b in
-      let e = sym (visits-by (c .reply .answer) (c .reply .visits) (c .buffer) (heard (ahead most s room (c .reply .walk) (c .buffer))) z) ∙ ap (λ (j : Joined). j .visits) (joins-ahead most s room zero w b g) in
+      let e = sym (visits-by (c .reply .answer) (c .reply .visits) (c .buffer) (joinedIn (ahead most s room (c .reply .walk) (c .buffer))) z) ∙ ap (λ (j : Joined). j .visits) (joins-ahead most s room zero w b g) in
       omega (arith, e)
   fewer (suc k) ks w b g h z =
       let c = call most s (suc k) w b in
-      let e = sym (visits-by (c .reply .answer) (c .reply .visits) (c .buffer) (heard (ahead most s room (c .reply .walk) (c .buffer))) z) ∙ ap (λ (j : Joined). j .visits) (joins-ahead most s room (suc k) w b g) in
+      let e = sym (visits-by (c .reply .answer) (c .reply .visits) (c .buffer) (joinedIn (ahead most s room (c .reply .walk) (c .buffer))) z) ∙ ap (λ (j : Joined). j .visits) (joins-ahead most s room (suc k) w b g) in
       let m = course-moves most s room (course-is most s room (suc k) w b g) .1 (omega arith) z in
       omega (arith, e, m)
 
@@ -141,7 +141,7 @@ module _ (most : ℕ) (s : List ℕ) (room : ℕ) where
 
 module _ (most : ℕ) (s b limits : List ℕ) where
   -- calls that come to an end say what the trie lists: its exports, the number of its visits, its ending
-  pub joined-says : {e : Ending} → calls most s (atStart most) b limits .ending ≡ some e → calls most s (atStart most) b limits ≡ heard (listing s (length b) most)
+  pub joined-says : {e : Ending} → calls most s (atStart most) b limits .ending ≡ some e → calls most s (atStart most) b limits ≡ joinedIn (listing s (length b) most)
   joined-says q =
       let g = good-start most s b in
       says-one most s (calls-say most s (length b) limits (atStart most) b (g .sound) q) (says-ahead most s (length b) (listing s (length b) most) (atStart most) b g refl)
@@ -151,5 +151,5 @@ module _ (most : ℕ) (s b limits : List ℕ) where
   joined-starts = calls-start most s (length b) limits (atStart most) b (good-start most s b)
 
   -- calls do come to an end once more of their limits are not 0 than the trie lists visits
-  pub joined-all : visitsIn (listing s (length b) most) < nonzero limits → calls most s (atStart most) b limits ≡ heard (listing s (length b) most)
+  pub joined-all : visitsIn (listing s (length b) most) < nonzero limits → calls most s (atStart most) b limits ≡ joinedIn (listing s (length b) most)
   joined-all h = joined-says (calls-end most s (length b) limits (atStart most) b (good-start most s b) h .1)

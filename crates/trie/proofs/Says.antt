@@ -7,7 +7,7 @@ use mathlib.Core.List.{List, [], _∷_}
 use mathlib.Core.Option.{some}
 use native.Mathlib.Omega.{arith}
 use lib.ListN.{length, take}
-use Rattle.trie.proofs.Course.{over, stopped, reached, next, next-closed, Course, ends, refuses, waits, limits, exports, visits, InRange, call-course, halts, course-keeps}
+use Rattle.trie.proofs.Course.{over, failed, reached, next, next-closed, Course, ends, refuses, waits, limits, exports, visits, InRange, call-course, halts, course-keeps}
 use Rattle.trie.proofs.Fits.{fit, Sound, sound-closed, sound-next, sound-ranged}
 use Rattle.trie.specs.Call.{Answer, export, more, end, refused, Outcome, call}
 use Rattle.nodes.specs.Symbols.{Ending, atEnd, atRefusal, withSymbol}
@@ -19,19 +19,19 @@ use Rattle.nodes.specs.declared.node.Terminal.the-variants as terminal
 module _ (most : ℕ) (s : List ℕ) where
   pub data Says : TrieWalk → List ℕ → Joined → Type 0 where
     says-over : {w : TrieWalk} {b : List ℕ} → next most s w b ≡ over → Says w b (joined [] 0 (some atEnd))
-    says-stopped : {w : TrieWalk} {b : List ℕ} {x : ℕ} → next most s w b ≡ stopped x → Says w b (joined [] 0 (some (atRefusal x)))
+    says-failed : {w : TrieWalk} {b : List ℕ} {x : ℕ} → next most s w b ≡ failed x → Says w b (joined [] 0 (some (atRefusal x)))
     says-reached : {w : TrieWalk} {b : List ℕ} {len : ℕ} {t : Terminal} {v : TrieWalk} {c : List ℕ} {j : Joined} → next most s w b ≡ reached len t v c → Says v c j
         → Says w b (joined (withSymbol (take len c) t (j .exports)) (1 + j .visits) (j .ending))
 
   pub says-one : {w : TrieWalk} {b : List ℕ} {i j : Joined} → Says w b i → Says w b j → i ≡ j
   says-one (says-over e) (says-over f) = refl
-  says-one (says-over e) (says-stopped f) = cc
+  says-one (says-over e) (says-failed f) = cc
   says-one (says-over e) (says-reached f q) = cc
-  says-one (says-stopped e) (says-over f) = cc
-  says-one (says-stopped e) (says-stopped f) = cc
-  says-one (says-stopped e) (says-reached f q) = cc
+  says-one (says-failed e) (says-over f) = cc
+  says-one (says-failed e) (says-failed f) = cc
+  says-one (says-failed e) (says-reached f q) = cc
   says-one (says-reached e p) (says-over f) = cc
-  says-one (says-reached e p) (says-stopped f) = cc
+  says-one (says-reached e p) (says-failed f) = cc
   says-one (says-reached {len = len} {t = t} {v = v} {c = c} e p) (says-reached {len = m} {t = u} {v = w} {c = d} {j = j} f q) =
       let x : m ≡ len = cc in
       let y : u ≡ t = cc in
@@ -42,7 +42,7 @@ module _ (most : ℕ) (s : List ℕ) where
 
   says-as : {v w : TrieWalk} {b : List ℕ} {j : Joined} → next most s v b ≡ next most s w b → Says v b j → Says w b j
   says-as q (says-over e) = says-over (sym q ∙ e)
-  says-as q (says-stopped e) = says-stopped (sym q ∙ e)
+  says-as q (says-failed e) = says-failed (sym q ∙ e)
   says-as q (says-reached e p) = says-reached (sym q ∙ e) p
 
   -- ---- a call, and what is said after it
@@ -57,7 +57,7 @@ module _ (most : ℕ) (s : List ℕ) where
       → (halts (p .reply .answer) ≡ false → Says (p .reply .walk) (p .buffer) j) → Joins n w b p j
   course-joins {n = n} j (ends e z) h = let q : n ≡ n + 0 = omega arith in record { said = _; says = says-over e; same = λ i. joined [] (q i) (some atEnd) }
   course-joins {n = n} j (refuses {x = x} e d) h =
-      let q : n ≡ n + 0 = omega arith in record { said = _; says = says-stopped e; same = λ i. joined [] (q i) (some (atRefusal x)) }
+      let q : n ≡ n + 0 = omega arith in record { said = _; says = says-failed e; same = λ i. joined [] (q i) (some (atRefusal x)) }
   course-joins j waits h = record { said = j; says = h refl; same = refl }
   course-joins j (limits {w = w} {b = b} y) h = record { said = j; says = says-as (next-closed most s w b y) (h refl); same = refl }
   course-joins {n = n} j (exports {len = len} {c = c} {x = x} e) h =

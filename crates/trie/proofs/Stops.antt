@@ -10,7 +10,7 @@ use lib.ListN.{length}
 use Rattle.refusal.specs.Numbers.{numberOf}
 use Rattle.refusal.specs.declared.Refusal.the-variants.{StateOutOfRange}
 use Rattle.trie.proofs.Children.{OfTrie, child-refused}
-use Rattle.trie.proofs.Course.{Next, over, stopped, reached, next, next-by, halts, Course, ends, refuses, waits, limits, exports, visits, InRange, ended-stays, goes-on, call-course, call-by}
+use Rattle.trie.proofs.Course.{Next, over, failed, reached, next, next-by, halts, Course, ends, refuses, waits, limits, exports, visits, InRange, ended-stays, goes-on, call-course, call-by}
 use Rattle.nodes.specs.Child.{any}
 use Rattle.trie.specs.Call.{marked, closed, onTop, Answer, export, more, end, refused, Outcome, replied, goOn, call}
 use Rattle.trie.specs.Frames.{topDown, outOfRange, stillOpen}
@@ -19,14 +19,14 @@ use Rattle.trie.specs.declared.TrieWalk.{TrieWalk}
 -- ---- the numbers of refusals
 
 module _ (most : ℕ) (s : List ℕ) where
-  abbrev IfStopped : Next → Type 0
-  IfStopped over = Unit {0}
-  IfStopped (stopped number) = OfTrie number
-  IfStopped (reached len t v c) = Unit {0}
+  abbrev IfFailed : Next → Type 0
+  IfFailed over = Unit {0}
+  IfFailed (failed number) = OfTrie number
+  IfFailed (reached len t v c) = Unit {0}
 
-  stopped-number : (w : TrieWalk) (b : List ℕ) → IfStopped (next most s w b)
-  stopped-number w b =
-      next-by most s w b IfStopped
+  failed-number : (w : TrieWalk) (b : List ℕ) → IfFailed (next most s w b)
+  failed-number w b =
+      next-by most s w b IfFailed
       (record {
         done = λ y z. tt;
         bad = λ z x f. child-refused s (length b) (topDown (w .offsets) (stillOpen (w .left) (w .depth))) (onTop (closed w) (w .lengths)) (onTop (closed w) (w .places)) f;
@@ -58,7 +58,7 @@ module _ (most : ℕ) (s : List ℕ) (room : ℕ) (given : TrieWalk) where
 
   course-leaves : {k n : ℕ} {w : TrieWalk} {b : List ℕ} {p : Outcome} → Course most s given k n w b p → Left (p .reply .answer) (p .reply .walk)
   course-leaves (ends {w = w} e z) = record { ended = refl; range = none-open (marked (closed w)) z }
-  course-leaves (refuses {w = w} {b = b} e d) = (subst (IfStopped most s) e (stopped-number most s w b), refl)
+  course-leaves (refuses {w = w} {b = b} e d) = (subst (IfFailed most s) e (failed-number most s w b), refl)
   course-leaves waits = tt
   course-leaves (limits y) = tt
   course-leaves (exports e) = tt

@@ -7,7 +7,7 @@ use native.Mathlib.Omega.{arith}
 use lib.ListN.{length, getD, set, replicate, length-set}
 use Rattle.numbers.proofs.little_endian.Fields.{Bytes}
 use Rattle.nodes.proofs.Inside.{TerminalIn, node-in}
-use Rattle.trie.proofs.Course.{Next, over, stopped, reached, next, next-by, Course, ends, refuses, waits, limits, exports, visits, call-by}
+use Rattle.trie.proofs.Course.{Next, over, failed, reached, next, next-by, Course, ends, refuses, waits, limits, exports, visits, call-by}
 use Rattle.nodes.proofs.Exports.{ExportIn}
 use Rattle.trie.proofs.Fits.{set-old, read, within, counted, buffer-long}
 use Rattle.trie.proofs.Visits.{still-at-most}
@@ -40,7 +40,7 @@ abbrev pub Typed : TrieWalk → Type 0
 Typed w = Fields (w .places) (w .offsets) (w .left) (w .lengths) (w .depth)
 
 -- what is lent: bytes are bytes, and a slice has less than 2^64 of them; so many has the name buffer
-pub record Lent (s : List ℕ) (room : ℕ) : Type 0 where
+pub record TypedLent (s : List ℕ) (room : ℕ) : Type 0 where
   pub bytes : Bytes s
   pub short : length s < 2 ^ 64
   pub small : room < 2 ^ 64
@@ -84,7 +84,7 @@ pub record Back (bytes room limit : ℕ) (p : Outcome) : Type 0 where
   pub answer : AnswerIn bytes room (p .reply .answer)
   pub long : length (p .buffer) ≡ room
 
-module _ (s : List ℕ) (room : ℕ) (lent : Lent s room) where
+module _ (s : List ℕ) (room : ℕ) (lent : TypedLent s room) where
   -- a node that is reached, with the length of its name in the buffer
   record Held (len : ℕ) (t : Terminal) (w : TrieWalk) (b : List ℕ) : Type 0 where
     typed : Typed w
@@ -94,7 +94,7 @@ module _ (s : List ℕ) (room : ℕ) (lent : Lent s room) where
 
   abbrev IfHeld : Next → Type 0
   IfHeld over = Unit {0}
-  IfHeld (stopped number) = Unit {0}
+  IfHeld (failed number) = Unit {0}
   IfHeld (reached len t v c) = Held len t v c
 
   module _ (w : TrieWalk) (b : List ℕ) (t : Typed w) (l : length b ≡ room) where
@@ -167,7 +167,7 @@ module _ (s : List ℕ) (room : ℕ) (lent : Lent s room) where
 -- ---- a call
 
 -- from any state whose fields are such as their types have, in range or not
-pub typed-call : (s : List ℕ) (limit : ℕ) (w : TrieWalk) (b : List ℕ) → Lent s (length b) → Typed w → Back (length s) (length b) limit (call 256 s limit w b)
+pub typed-call : (s : List ℕ) (limit : ℕ) (w : TrieWalk) (b : List ℕ) → TypedLent s (length b) → Typed w → Back (length s) (length b) limit (call 256 s limit w b)
 typed-call s limit w b lent t =
     call-by 256 s limit w b (Back (length s) (length b) limit)
     (λ out. record { typed = t; visits = omega arith; answer = tt; long = refl })

@@ -90,9 +90,9 @@ module _ {s : List ℕ} {given : TrieWalk} {limit done : ℕ} {w₀ : TrieWalk} 
         by (suc k) = next k ∙ rw (eq-eqb d 0 z)
 
     module _ (z : d ≡ 0 → ⊥) where
-      pub stops : limit ≤ visits → {r : TrieStep} → r ≡ record { answer = answer.More; walk = atDepth d w; visits = visits }
+      pub pauses : limit ≤ visits → {r : TrieStep} → r ≡ record { answer = answer.More; walk = atDepth d w; visits = visits }
           → (told r, b) ≡ seen (onward 256 s given (limit - done) done w₀ b₀)
-      stops h f =
+      pauses h f =
           let k : limit - visits ≡ 0 = omega arith in
           sym (ap seen (g .same ∙ ap (λ (m : ℕ). onward 256 s given m visits w b) k ∙ last) ∙ rw (ne-eqb d 0 z) (λ i. (told (sym f i), b)))
 
@@ -145,4 +145,4 @@ module _ {s : List ℕ} {given : TrieWalk} {limit done : ℕ} {w₀ : TrieWalk} 
                   same = reached ∙ ap (visited (onward 256 s given (limit - (visits + 1))) (childName (atDepth d w) x) (visits + 1) (childOpened (atDepth d w) x n) c₀) y;
                 }
 
-pub ruleset visiting = (begins, child-left, ends, stops, refuses, name-fits, full, exports, goes-on)
+pub ruleset visiting = (begins, child-left, ends, pauses, refuses, name-fits, full, exports, goes-on)

@@ -34,5 +34,5 @@ calls most s w b (k ∷ ks) =
     join (o .reply .visits) (o .buffer) rest (o .reply .answer)
 
 -- what a listing says
-abbrev pub heard : Run Visit → Joined
-heard l = joined (exportsIn l) (visitsIn l) (some (endingOf l))
+abbrev pub joinedIn : Run Visit → Joined
+joinedIn l = joined (exportsIn l) (visitsIn l) (some (endingOf l))

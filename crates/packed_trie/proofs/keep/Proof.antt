@@ -21,7 +21,6 @@ keep-spec =
     tie.close
     (tie.spec
     (λ c κs. search needs)
-    (λ c κs. search needs)
     (λ c. search needs)
     (λ c κs. search needs)
     (λ c κs. search needs)
@@ -38,8 +37,7 @@ keep-spec =
     let c₃ = c₄ .before .before .before .before .before .before .before in
     let c₂ = c₃ .before .before .before .before .before .before .before in
     let c₁ = c₂ .before .before .before .before .before .before .before in
-    let y = c₁ .before .before .before in
-    let x = y .before in
+    let x = c₁ .before .before .before in
     let s = x .before .before in
-    kept (s .args .t1) (s .args .state .now) (s .pre) (places s) (offsets s) (lengths s) (x .bit .ensures) (y .bit2 .ensures)
+    kept (s .args .t1) (s .args .state .now) (s .pre) (places s) (offsets s) (lengths s) (x .bit .ensures)
     (c₁ .put .ensures) (c₂ .put2 .ensures) (c₃ .put3 .ensures) (c₄ .put4 .ensures) (c₅ .copy .ensures)))
