@@ -62,7 +62,7 @@ preflightLazy stream size sizes verdict = flown (preflight binds lazily) stream 
 -- ---- the exports trie
 
 abbrev pub trieStart : (state : List ℕ) → ℕ × List ℕ
-trieStart state = started exports.states state (begun atStart)
+trieStart state = started exports.states state (begun (atStart exports.most))
 
 -- the name buffer stands before the item
 abbrev pub trieStep : (trie state name : List ℕ) (limit : ℕ) (item : List ℕ) → ℕ × List ℕ × List ℕ × List ℕ

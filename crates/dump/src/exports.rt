@@ -7,11 +7,11 @@ use crate::file::Loaded;
 use crate::file::load;
 use crate::line::Out;
 use crate::words::Words;
+use nodes::export::Export;
+use nodes::export::ExportData;
 use numbers::parts::part;
 use trie::TrieAnswer;
 use trie::TrieWalk;
-use trie::export::Export;
-use trie::export::ExportData;
 
 // The most nodes that are visited for one export. A trie that fits the room has fewer; one whose nodes are shared
 // can list more than any run would come to the end of, and none of them an export.

@@ -81,5 +81,5 @@ trieTurn rest sum w b (trie.refused e) = (sum, b)
 unfoldable pub trieLap : List ℕ → (n sum : ℕ) → TrieWalk → List ℕ → ℕ × List ℕ
 trieLap s zero sum w b = (sum, b)
 trieLap s (suc n) sum w b =
-    let heard = trie.call s (2 ^ 64 - 1) w b in
-    trieTurn (trieLap s n) sum (heard .0 .walk) (heard .1) (heard .0 .answer)
+    let o = trie.call 256 s (2 ^ 64 - 1) w b in
+    trieTurn (trieLap s n) sum (o .reply .walk) (o .buffer) (o .reply .answer)

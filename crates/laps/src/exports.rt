@@ -9,7 +9,7 @@ use trie::TrieWalk;
 // By so many calls at most, each with the largest limit of nodes. The names are put into the buffer.
 #[no_mangle]
 pub extern "C" fn laps_trie(trie: &[u8], name: &mut [u8], limit: u64) -> u64
-    ensures { λ r. ⌜ (r, now (name .exit)) ≡ trieLap (now (trie .entry)) limit 0 atStart (now (name .entry)) ⌝ }
+    ensures { λ r. ⌜ (r, now (name .exit)) ≡ trieLap (now (trie .entry)) limit 0 (atStart 256) (now (name .entry)) ⌝ }
 {
     let mut w = TrieWalk::start();
     let mut left = limit;

@@ -5,6 +5,7 @@ pub mod Visits
 pub mod Calls
 pub mod Ahead
 pub mod Course
+pub mod Reached
 pub mod Stops
 pub mod Fits
 pub mod Says

@@ -3,8 +3,9 @@
 use Prim.Native.Nat.{ℕ, zero, suc, _+_, _/_, _%_}
 use mathlib.Core.List.{List, [], _∷_}
 use mathlib.Core.Option.{some}
-use Rattle.trie.specs.Exported.{Exported, Target, regular, reexport, stubAndResolver}
-use Rattle.trie.specs.Joined.{symbol, atEnd, atRefusal, Joined, joined}
+use Rattle.nodes.specs.Exported.{Exported, Target, regular, reexport, stubAndResolver}
+use Rattle.nodes.specs.Symbols.{symbol, atEnd, atRefusal}
+use Rattle.trie.specs.Joined.{Joined, joined}
 
 abbrev pub exports : (flags : ℕ) → Target → Exported
 exports flags target = record { flags = flags; target = target }
@@ -30,6 +31,13 @@ shared = 0x00 ∷ 0x02 ∷ 0x61 ∷ 0x62 ∷ 0x00 ∷ 0x09 ∷ 0x63 ∷ 0x00 ∷
 -- the child of the root has the root for its child
 abbrev pub loop : List ℕ
 loop = 0x00 ∷ 0x01 ∷ 0x61 ∷ 0x00 ∷ 0x05 ∷ 0x00 ∷ 0x01 ∷ 0x62 ∷ 0x00 ∷ 0x00 ∷ []
+
+-- a child whose edge has no offset; and one whose offset leads out of the bytes
+abbrev pub cutEdge : List ℕ
+cutEdge = 0x00 ∷ 0x01 ∷ 0x61 ∷ []
+
+abbrev pub cutNode : List ℕ
+cutNode = 0x00 ∷ 0x01 ∷ 0x61 ∷ 0x00 ∷ 0x09 ∷ []
 
 -- a re-export of `_x` from library 1, with a spare byte in its area; below it a stub with a resolver
 abbrev pub kinds : List ℕ

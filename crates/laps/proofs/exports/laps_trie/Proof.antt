@@ -8,7 +8,7 @@ use Rattle.laps.proofs.exports.laps_trie.Statement.{statement}
 use Rattle.laps.proofs.exports.laps_trie.Tie as tie
 
 abbrev Inv-loop : tie.InvT-loop
-Inv-loop trie name₀ limit w₀ left₀ sum₀ name w left sum = Named trie (trieLap trie limit 0 atStart name₀) (length name₀) left sum w name
+Inv-loop trie name₀ limit w₀ left₀ sum₀ name w left sum = Named trie (trieLap trie limit 0 (atStart 256) name₀) (length name₀) left sum w name
 
 abbrev μ-loop : tie.MeasureT-loop
 μ-loop trie name₀ limit w₀ left₀ sum₀ name w left sum = left
