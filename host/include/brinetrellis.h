@@ -63,7 +63,7 @@ extern "C" {
 #define BRINETRELLIS_BIND_STATE 144
 #define BRINETRELLIS_BIND_ITEM 64
 #define BRINETRELLIS_VERDICT 16
-#define BRINETRELLIS_TRIE_STATE 6424
+#define BRINETRELLIS_TRIE_STATE 6416
 #define BRINETRELLIS_TRIE_ITEM 72
 #define BRINETRELLIS_SEGMENT_STATE 24
 #define BRINETRELLIS_SEGMENT_ITEM 64
@@ -140,11 +140,10 @@ struct brinetrellis_verdict {
     uint64_t index;
 };
 
-/* Where a walk over an exports trie stands. Once it has begun, the first `depth` elements of each array are those of
- * the open nodes, the one on top last. */
+/* Where a walk over an exports trie stands. The first `depth` elements of each array are those of the open nodes, the
+ * one on top last. A walk that has not ended and has no node open has not begun. */
 struct brinetrellis_trie_state {
     uint64_t depth;
-    uint64_t begun; /* a mark: the root was visited */
     uint64_t ended; /* a mark: the walk has said the end or a refusal */
     uint64_t places[BRINETRELLIS_OPEN_NODES];  /* where the next edge is read */
     uint64_t offsets[BRINETRELLIS_OPEN_NODES]; /* of the node, from the start of the trie */

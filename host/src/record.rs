@@ -11,7 +11,7 @@ pub const BIND_ITEM: usize = 64;
 /// What a preflight says.
 pub const VERDICT: usize = 16;
 /// The state of a walk over an exports trie.
-pub const TRIE_STATE: usize = 6424;
+pub const TRIE_STATE: usize = 6416;
 /// An export.
 pub const TRIE_ITEM: usize = 72;
 /// The state of a walk over the segments of chained fixups.

@@ -136,19 +136,19 @@ fn a_refused_segment_is_passed() {
 #[test]
 fn a_refused_trie_walk_counts_its_visits() {
     // The root; then an edge of two bytes for a buffer of one.
-    let mut state = begun(6424, raw::trie_start);
+    let mut state = begun(6416, raw::trie_start);
     let (mut item, mut name) = (full(72), full(1));
     let answer = raw::trie_step(SHARED, &mut state, &mut name, 9, &mut item);
     assert_eq!((answer, name), (18, full(1)));
     assert_eq!(words(&item), [1, 0, 0, 0, 0, 0, 0, 0, 0]);
-    // The state before the root, marked: depth 0, not begun, ended.
-    assert_eq!(words(&state[..24]), [0, 0, 1]);
-    assert_eq!(state[24..], [0; 6400]);
+    // The state before the root, marked: depth 0, ended.
+    assert_eq!(words(&state[..16]), [0, 1]);
+    assert_eq!(state[16..], [0; 6400]);
 }
 
 #[test]
 fn more_is_said_with_the_visits_alone() {
-    let mut state = begun(6424, raw::trie_start);
+    let mut state = begun(6416, raw::trie_start);
     let (mut item, mut name) = (full(72), full(2));
     let answer = raw::trie_step(SHARED, &mut state, &mut name, 1, &mut item);
     assert_eq!((answer, &name), (answer::MORE, &full(2)));
@@ -182,13 +182,14 @@ fn a_state_out_of_range_stays_as_it_was() {
             // A read place beyond S1, S2; a pointer size. Marked as ended, too: 19 is tested first.
             "rebase_step" => &[&[(0, 6)], &[(1, 0)], &[(1, 5)], &[(0, 6), (5, 1)]],
             "bind_step" => &[&[(0, 10)], &[(1, 0)], &[(1, 16)], &[(0, 10), (5, 1)]],
-            // Begun, with 257 open nodes; with one whose read place is beyond the 13 bytes; with one
-            // whose name has three bytes of two.
+            // 257 open nodes, ended or not; one whose read place is beyond the 13 bytes; one whose
+            // name has three bytes of two.
             "trie_step" => &[
+                &[(0, 257)],
+                &[(0, 300)],
+                &[(0, 1), (2, 14)],
+                &[(0, 1), (2 + 512, 3)],
                 &[(0, 257), (1, 1)],
-                &[(0, 1), (1, 1), (3, 14)],
-                &[(0, 1), (1, 1), (3 + 512, 3)],
-                &[(0, 257), (1, 1), (2, 1)],
             ],
             // The starts, which are 4 + 4 × count bytes, beyond the 83 bytes.
             "segment_step" => &[&[(0, 80), (1, 0)], &[(1, 13)], &[(0, u64::MAX)]],
@@ -215,7 +216,7 @@ fn a_state_at_the_end_of_its_range_is_taken() {
     let bounds: [(&str, &[(usize, u64)]); 7] = [
         ("rebase_step", &[(0, 5)]),
         ("bind_step", &[(0, 9)]),
-        ("trie_step", &[(0, 1), (1, 1), (3, 13), (3 + 512, 2)]),
+        ("trie_step", &[(0, 1), (2, 13), (2 + 512, 2)]),
         ("segment_step", &[(0, 79), (1, 0)]),
         ("page_step", &[(6, 81)]),
         ("page_step", &[(13, 65_535 * 65_535)]),
@@ -234,13 +235,11 @@ fn a_state_at_the_end_of_its_range_is_taken() {
 }
 
 #[test]
-fn the_depth_of_a_trie_that_has_not_begun_is_not_looked_at() {
+fn a_trie_walk_with_no_node_open_begins() {
     let entry = trie_step();
+    // What the arrays hold is not looked at.
     let mut buffers = entry.buffers.clone();
-    put(&mut buffers[0], 0, 257);
+    buffers[0][16..].fill(FULL);
     let (answer, left) = entry.on(&buffers);
-    assert_eq!(
-        (answer, words(&left[0][..24])),
-        (answer::ITEM, vec![2, 1, 0])
-    );
+    assert_eq!((answer, words(&left[0][..16])), (answer::ITEM, vec![2, 0]));
 }

@@ -145,10 +145,7 @@ const FIELDS: [(&str, &str); 14] = [
         "segment offset type library place length flags addend",
     ),
     ("verdict", "position index"),
-    (
-        "trie_state",
-        "depth begun ended places offsets lengths left",
-    ),
+    ("trie_state", "depth ended places offsets lengths left"),
     (
         "trie_item",
         "visits length flags kind address resolver ordinal place size",

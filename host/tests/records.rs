@@ -63,18 +63,18 @@ fn the_words_of_a_bind_walk() {
 
 #[test]
 fn the_words_of_a_trie_walk() {
-    let (mut state, mut item, mut name) = (full(6424), full(72), full(4));
+    let (mut state, mut item, mut name) = (full(6416), full(72), full(4));
     assert_eq!(raw::trie_start(&mut state), answer::ITEM);
-    assert_eq!(state, vec![0; 6424]);
+    assert_eq!(state, vec![0; 6416]);
     let export = raw::trie_step(SHARED, &mut state, &mut name, 9, &mut item);
     assert_eq!(export, answer::ITEM);
     // The root and the node at 9 are open: next edges at 6 and 13, names of 0 and 2 bytes, one child
     // left and none.
-    let (numbers, left) = state.split_at(24 + 3 * 2048);
-    let mut expected = vec![0; 3 + 3 * 256];
-    expected[..5].copy_from_slice(&[2, 1, 0, 6, 13]);
-    expected[3 + 256..][..2].copy_from_slice(&[0, 9]);
-    expected[3 + 512..][..2].copy_from_slice(&[0, 2]);
+    let (numbers, left) = state.split_at(16 + 3 * 2048);
+    let mut expected = vec![0; 2 + 3 * 256];
+    expected[..4].copy_from_slice(&[2, 0, 6, 13]);
+    expected[2 + 256..][..2].copy_from_slice(&[0, 9]);
+    expected[2 + 512..][..2].copy_from_slice(&[0, 2]);
     assert_eq!(words(numbers), expected);
     assert_eq!((left[0], &left[1..]), (1, &[0; 255][..]));
     assert_eq!(words(&item), [2, 2, 1, 0, 16, 0, 0, 0, 0]);
@@ -84,7 +84,7 @@ fn the_words_of_a_trie_walk() {
 #[test]
 fn the_words_of_exports() {
     let export = |trie: &[u8]| {
-        let mut state = begun(6424, raw::trie_start);
+        let mut state = begun(6416, raw::trie_start);
         let mut item = full(72);
         let answer = raw::trie_step(trie, &mut state, &mut [], 1, &mut item);
         assert_eq!(answer, answer::ITEM);

@@ -5,11 +5,11 @@ use brinetrellis::raw;
 use oracle::{Answers, END, ITEM};
 
 /// The bytes of a trie walk's state.
-pub const STATE: usize = 6424;
+pub const STATE: usize = 6416;
 /// The most bytes of a name buffer here.
 pub const ROOM: usize = 4096;
 /// The word that marks the state as ended.
-pub const MARK: Mark = Mark::Word(2);
+pub const MARK: Mark = Mark::Word(1);
 /// Once in so many walks the states are looked at: they are long.
 const LOOKED_AT: u64 = 8;
 

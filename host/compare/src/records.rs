@@ -68,11 +68,11 @@ pub const ENTRIES: [Entry; 6] = [
     },
     Entry {
         name: "trie_step",
-        state: 6424,
+        state: 6416,
         item: 72,
-        mark: Mark::Word(2),
+        mark: Mark::Word(1),
         refusals: &[15, 16, 17, 18],
-        kinds: &[Word, Bool, Bool],
+        kinds: &[Word, Bool],
         step: |lent, state, name, item| raw::trie_step(&lent.bytes, state, name, lent.limit, item),
         out_of_range: trie_out,
         idle: |_, _| false,
@@ -119,6 +119,12 @@ pub const ENTRIES: [Entry; 6] = [
     },
 ];
 
+/// The words of a trie walk's open nodes, and the bytes of their children left.
+const PLACES: usize = 2;
+const OFFSETS: usize = PLACES + 256;
+const LENGTHS: usize = OFFSETS + 256;
+const LEFT: usize = 8 * (LENGTHS + 256);
+
 fn beyond(lent: &Lent, place: u64, more: u128) -> bool {
     u128::from(place) + more > lent.bytes.len() as u128
 }
@@ -127,12 +133,12 @@ fn stream_out(lent: &Lent, state: &Record) -> bool {
     beyond(lent, state.word(0), 0) || !matches!(state.word(1), 4 | 8)
 }
 
-/// A walk that has not begun has no node open.
 fn trie_out(lent: &Lent, state: &Record) -> bool {
-    let open = if state.word(1) == 1 { state.word(0) } else { 0 };
-    let kept = |index| state.word(515 + index) > lent.name.len() as u64;
+    let open = state.word(0);
+    let kept = |index| state.word(LENGTHS + index) > lent.name.len() as u64;
     open > 256
-        || (0..open as usize).any(|index| beyond(lent, state.word(3 + index), 0) || kept(index))
+        || (0..open as usize)
+            .any(|index| beyond(lent, state.word(PLACES + index), 0) || kept(index))
 }
 
 fn segments_out(lent: &Lent, state: &Record) -> bool {
@@ -176,7 +182,7 @@ impl Record {
         if let Mark::Word(index) = entry.mark {
             set_word(&mut record.bytes, index, u64::from(random.once_in(6)));
         }
-        if entry.state == 6424 {
+        if entry.state == 6416 {
             record.open_nodes(random, lent);
         }
         record
@@ -189,11 +195,11 @@ impl Record {
         for index in 0..depth.min(256) as usize {
             let strange = random.once_in(40 * depth as usize);
             let places = lent.bytes.len() + 1 + usize::from(strange);
-            set_word(&mut self.bytes, 3 + index, random.below(places) as u64);
-            set_word(&mut self.bytes, 259 + index, near(random, lent.bytes.len()));
+            set_word(&mut self.bytes, PLACES + index, random.below(places) as u64);
+            set_word(&mut self.bytes, OFFSETS + index, near(random, lent.bytes.len()));
             let lengths = lent.name.len() + 1 + usize::from(strange);
-            set_word(&mut self.bytes, 515 + index, random.below(lengths) as u64);
-            self.bytes[6168 + index] = random.byte() % 4;
+            set_word(&mut self.bytes, LENGTHS + index, random.below(lengths) as u64);
+            self.bytes[LEFT + index] = random.byte() % 4;
         }
     }
 

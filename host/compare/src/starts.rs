@@ -84,10 +84,10 @@ fn bind(random: &mut Random) -> bool {
 
 /// A start of a trie walk always begins, with no node open.
 fn trie(random: &mut Random) -> bool {
-    let mut state = slice(random, 6424);
+    let mut state = slice(random, 6416);
     let answer = raw::trie_start(&mut state);
-    if state.len() == 6424 {
-        answer == 0 && words(&state)[..3] == [0, 0, 0]
+    if state.len() == 6416 {
+        answer == 0 && words(&state)[..2] == [0, 0]
     } else {
         answer == OUT_OF_RANGE && untouched(&state)
     }

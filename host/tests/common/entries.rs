@@ -67,7 +67,7 @@ fn starts() -> Vec<Entry> {
         entry("bind_plain", state(144), on!(|s| raw::bind_plain(8, s))),
         entry("bind_weak", state(144), on!(|s| raw::bind_weak(8, s))),
         entry("bind_lazy", state(144), on!(|s| raw::bind_lazy(8, s))),
-        entry("trie_start", state(6424), on!(|s| raw::trie_start(s))),
+        entry("trie_start", state(6416), on!(|s| raw::trie_start(s))),
         entry(
             "segment_start",
             state(24),
@@ -127,7 +127,7 @@ pub fn trie_step() -> Entry {
     Entry {
         name: "trie_step",
         records: 2,
-        buffers: vec![begun(6424, raw::trie_start), full(72), full(2)],
+        buffers: vec![begun(6416, raw::trie_start), full(72), full(2)],
         call: |buffers| match buffers {
             [state, item, name] => raw::trie_step(SHARED, state, name, 9, item),
             _ => unreachable!("three buffers"),

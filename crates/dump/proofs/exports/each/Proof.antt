@@ -1,5 +1,5 @@
 -- `dump::exports::each` meets its contract. Assumes nothing.
-use Prim.Native.Nat.{_-_, _≤_}
+use Prim.Native.Nat.{_-_, _^_, _≤_, _<_}
 use mathlib.Core.Path.{_≡_}
 use lib.ListN.{length}
 use borrow.Author.Needs.{needs}
@@ -7,7 +7,7 @@ use Rattle.dump.proofs.exports.each.Statement.{statement}
 use Rattle.dump.proofs.exports.each.Tie as tie
 
 abbrev Inv-loop : tie.InvT-loop
-Inv-loop s name₀ max lines₀ w₀ out₀ count₀ name lines w out count = (count ≤ max) × (length name ≡ length name₀) × (length lines ≡ length lines₀)
+Inv-loop s name₀ max lines₀ w₀ out₀ count₀ name lines w out count = (count ≤ max) × (max < 2 ^ 64) × (length name ≡ length name₀) × (length lines ≡ length lines₀)
 
 abbrev μ-loop : tie.MeasureT-loop
 μ-loop s name₀ max lines₀ w₀ out₀ count₀ name lines w out count = max - count
