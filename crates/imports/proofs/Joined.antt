@@ -12,7 +12,7 @@ use Rattle.imports.specs.declared.Import.{Import}
 use Rattle.imports.specs.declared.ImportWalk.{ImportWalk}
 use Rattle.imports.specs.declared.record.ImportRead.{ImportRead}
 use Rattle.imports.specs.declared.record.ImportRead.the-variants.{Found, Refused}
-use Rattle.runs.proofs.Walks.{shown, Stays, walks-ahead, walks-one}
+use Rattle.runs.proofs.Walks.{shown, Stays, Starts, walks-ahead, walks-one}
 use Rattle.runs.specs.Runs.{Begin, begun, notBegun, end, Run, fails, Walks}
 use Rattle.imports.proofs.Calls.{InRange}
 use Rattle.imports.proofs.Imports.{both-imports}
@@ -70,27 +70,20 @@ module _ (s : List ℕ) where
 
   -- ---- a start
 
-  record Begins (w : ImportWalk) (r : Run Import) : Type 0 where
-    going : Going w
-    all : r ≡ ahead w
+  abbrev Lists : Begin ImportWalk → Run Import → Type 0
+  Lists = Starts (call s) (λ n r. r ≡ fails n)
 
-  abbrev Starts : Begin ImportWalk → Run Import → Type 0
-  Starts (begun w) r = Begins w r
-  Starts (notBegun n) r = r ≡ fails n
-
-  starts : Starts (begin s) (listing s)
+  starts : Lists (begin s) (listing s)
   unfolding begin listing
   starts =
-      both-imports Starts s _ _ _ _ (λ n. refl)
-      (λ h i j. record { going = record { range = record { place-in = i; symbols-in = j }; live = refl }; all = refl })
+      both-imports Lists s _ _ _ _ (λ n. refl)
+      (λ h i j. walks _ (record { range = record { place-in = i; symbols-in = j }; live = refl }))
 
   pub joined : (w : ImportWalk) → begin s ≡ begun w → Walks (call s) w (listing s)
-  joined w e =
-      let b = subst (λ (x : Begin ImportWalk). Starts x (listing s)) e starts in
-      subst (Walks (call s) w) (sym (b .all)) (walks w (b .going))
+  joined w e = subst (λ (b : Begin ImportWalk). Lists b (listing s)) e starts
 
   pub joined-only : (w : ImportWalk) {r : Run Import} → begin s ≡ begun w → Walks (call s) w r → r ≡ listing s
   joined-only w e h = walks-one (call s) h (joined w e)
 
   pub not-begun : {n : ℕ} → begin s ≡ notBegun n → listing s ≡ fails n
-  not-begun e = subst (λ (x : Begin ImportWalk). Starts x (listing s)) e starts
+  not-begun e = subst (λ (b : Begin ImportWalk). Lists b (listing s)) e starts

@@ -1,6 +1,6 @@
 -- Calls from a start on say what the chains of the segment list, and nothing else. Assumes nothing.
 use Prim.Native.Nat.{ℕ, _-_, _^_, _≤_, _<_}
-use mathlib.Core.Path.{_≡_, refl, ap, sym, subst}
+use mathlib.Core.Path.{_≡_, refl, subst}
 use mathlib.Core.Bool.{Bool, true, false, cond}
 use mathlib.Core.List.{List}
 use mathlib.Core.Logic.{_⊎_, inl, inr}
@@ -19,7 +19,7 @@ use Rattle.pages.specs.ChainedPointers.{isFormat, nextOf}
 use Rattle.pages.specs.Listing.{pages, listing, heard}
 use Rattle.pages.specs.declared.PageWalk.{PageWalk}
 use Rattle.pages.specs.declared.Patch.{Patch}
-use Rattle.runs.proofs.Walks.{Stays, walks-ahead, walks-one}
+use Rattle.runs.proofs.Walks.{Stays, Starts, walks-ahead, walks-one}
 use Rattle.runs.specs.Runs.{Begin, begun, notBegun, Run, fails, mapped, Walks}
 
 module _ (s d : List ℕ) (short : length d < 2 ^ 64) where
@@ -68,33 +68,25 @@ module _ (s d : List ℕ) (short : length d < 2 ^ 64) where
   -- ---- a start
 
   module _ (g : Segment) (base : ℕ) (t : TypedSegment g) where
-    record Begins (w : PageWalk) : Type 0 where
-      going : Goes w
-      all : listing s d g base ≡ ahead s d w
+    abbrev Lists : Begin PageWalk → Type 0
+    Lists b = Starts (call s d) (λ n r. (n ≡ 19) ⊎ (r ≡ fails n)) b (heard (listing s d g base))
 
-    abbrev Starts : Begin PageWalk → Type 0
-    Starts (begun w) = Begins w
-    Starts (notBegun n) = (n ≡ 19) ⊎ (heard (listing s d g base) ≡ fails n)
-
-    starts : Starts (begin s g base)
+    starts : Lists (begin s g base)
     unfolding begin listing mapped
     starts = by (startsOut g (length s)) (isFormat (g .«pointer_format»)) refl refl
       where
-        by : (a b : Bool) → startsOut g (length s) ≡ a → isFormat (g .«pointer_format») ≡ b → Starts (cond a (notBegun 19) (cond b (begun (atStart g base)) (notBegun 11)))
+        by : (a b : Bool) → startsOut g (length s) ≡ a → isFormat (g .«pointer_format») ≡ b → Lists (cond a (notBegun 19) (cond b (begun (atStart g base)) (notBegun 11)))
         by true b e f = inl refl
         by false true e f =
-            let z : g .«page_count» ≡ g .«page_count» - 0 = omega arith in
-            record {
-              going = record { typed = t; inside = e; format = f; near = omega arith; live = refl };
-              all = rw f (ap (λ (n : ℕ). pages s d g base n 0) z);
-            }
+            let z : g .«page_count» - 0 ≡ g .«page_count» = omega arith in
+            rw f
+            (subst (λ (n : ℕ). Walks (call s d) (atStart g base) (heard (pages s d g base n 0))) z
+            (walks (atStart g base) (record { typed = t; inside = e; format = f; near = omega arith; live = refl })))
         by false false e f = inr (rw f)
 
     -- calls from a start on say what the chains list
     pub joined : (w : PageWalk) → begin s g base ≡ begun w → Walks (call s d) w (heard (listing s d g base))
-    joined w e =
-        let b = subst Starts e starts in
-        subst (Walks (call s d) w) (ap heard (sym (b .all))) (walks w (b .going))
+    joined w e = subst Lists e starts
 
     -- and nothing else
     pub joined-only : (w : PageWalk) {r : Run Patch} → begin s g base ≡ begun w → Walks (call s d) w r →
@@ -103,4 +95,4 @@ module _ (s d : List ℕ) (short : length d < 2 ^ 64) where
 
     -- a start is refused for its record, 19, or the listing is that refusal
     pub not-begun : {n : ℕ} → begin s g base ≡ notBegun n → (n ≡ 19) ⊎ (heard (listing s d g base) ≡ fails n)
-    not-begun e = subst Starts e starts
+    not-begun e = subst Lists e starts
