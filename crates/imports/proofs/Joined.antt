@@ -14,10 +14,10 @@ use Rattle.imports.specs.declared.record.ImportRead.{ImportRead}
 use Rattle.imports.specs.declared.record.ImportRead.the-variants.{Found, Refused}
 use Rattle.runs.proofs.Walks.{shown, Stays, Starts, walks-ahead, walks-one}
 use Rattle.runs.specs.Runs.{Begin, begun, notBegun, end, Run, fails, Walks}
-use Rattle.imports.proofs.Calls.{InRange}
+use Rattle.imports.proofs.Answers.{by-call}
+use Rattle.imports.proofs.Calls.{InRange, none-out}
 use Rattle.imports.proofs.Imports.{both-imports}
-use Rattle.imports.proofs.Inside.{IfImport, Inside, import-inside}
-use Rattle.imports.proofs.Kept.{in-range-call}
+use Rattle.imports.proofs.Inside.{found-inside}
 
 module _ (s : List ℕ) where
   -- a walk that goes on
@@ -33,8 +33,10 @@ module _ (s : List ℕ) where
 
   module _ (w : ImportWalk) where
     going-call : Going w → call s w ≡ next s w (w .left)
+    unfolding call
     going-call g =
-        in-range-call s w (g .range) ∙ ap (λ (t : Bool). cond t (end w) (next s w (w .left))) (g .live)
+        rw (none-out (w .place) (w .«symbols_offset») (length s) (g .range))
+        (ap (λ (t : Bool). cond t (end w) (next s w (w .left))) (g .live))
 
     says-read : (n : ℕ) (x : ImportRead) → thenRest (imports s (w .«imports_format») (w .«symbols_offset») n) x ≡ shown ahead (imported w n x)
     unfolding thenRest imported
@@ -49,20 +51,11 @@ module _ (s : List ℕ) where
     says : Going w → ahead w ≡ shown ahead (call s w)
     says g = says-next (w .left) ∙ ap (shown ahead) (sym (going-call g))
 
-    stays-read : Going w → (n : ℕ) (x : ImportRead) → IfImport (Inside s) x → Stays Going (imported w n x)
-    unfolding imported
-    stays-read g n (Found x at) i =
-        record { range = record { place-in = i .ends; symbols-in = g .range .symbols-in }; live = g .live }
-    stays-read g n (Refused e) i = tt
-
-    stays-next : Going w → (n : ℕ) → Stays Going (next s w n)
-    unfolding next
-    stays-next g zero = tt
-    stays-next g (suc n) =
-        stays-read g n (importAt s (w .«imports_format») (w .«symbols_offset») (w .place)) (import-inside s (w .«imports_format») (w .«symbols_offset») (w .place))
-
     stays : Going w → Stays Going (call s w)
-    stays g = subst (Stays Going) (sym (going-call g)) (stays-next g (w .left))
+    stays g =
+        by-call s w (Stays Going) tt (λ e. tt)
+        (λ x at left l e. record { range = record { place-in = found-inside s w e .ends; symbols-in = g .range .symbols-in }; live = g .live })
+        (λ o. tt)
 
   -- calls from any state that goes on say what is ahead of it, made up or not
   pub walks : (w : ImportWalk) → Going w → Walks (call s) w (ahead w)

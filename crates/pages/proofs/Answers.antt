@@ -1,24 +1,25 @@
 -- What holds of every answer of a call, by what holds of the states on the way. Assumes nothing.
 use Prim.Native.Nat.{ℕ, zero, suc, _+_, _-_, _<_}
-use mathlib.Core.Path.{_≡_, refl, sym, subst}
+use mathlib.Core.Path.{_≡_, refl}
 use mathlib.Core.Bool.{Bool, true, false, cond}
 use mathlib.Core.List.{List}
 use native.Mathlib.Omega.{arith}
 use borrow.Author.Tests.{leb-false}
 use lib.ListN.{length}
-use Rattle.numbers.proofs.Picks.{by-pick}
+use Rattle.numbers.proofs.Picks.{by-pick, both-picks}
 use Rattle.numbers.proofs.Then.{by-number}
 use Rattle.numbers.specs.LittleEndian.{fieldAt}
-use Rattle.pages.proofs.Calls.{counted, call-live}
+use Rattle.pages.proofs.Calls.{counted}
 use Rattle.pages.specs.Call.{onPage, toChain, toPointer, onward, chain, opened, pages, soughtBy, seek, refusing, pointer, answered, outOfRange, call}
 use Rattle.pages.specs.ChainedPointers.{startAt, isNone, isMarked, unmarked, widthOf, fixupOf, nextOf, patch}
 use Rattle.pages.specs.declared.PageWalk.{PageWalk}
 use Rattle.pages.specs.declared.Patch.{Patch}
 use Rattle.pages.specs.declared.Sought.{Sought}
 use Rattle.pages.specs.declared.Sought.the-variants as sought
+use Rattle.refusal.specs.Numbers.{numberOf}
 use Rattle.refusal.specs.declared.Refusal.{Refusal}
-use Rattle.refusal.specs.declared.Refusal.the-variants.{BeyondStarts, PointerOutside}
-use Rattle.runs.specs.Runs.{Answer, item, end}
+use Rattle.refusal.specs.declared.Refusal.the-variants.{BeyondStarts, PointerOutside, StateOutOfRange}
+use Rattle.runs.specs.Runs.{Answer, item, end, refused}
 
 -- what holds of the state that a search comes to
 abbrev pub Comes : (PageWalk → Type 0) → Sought → Type 0
@@ -76,5 +77,8 @@ module _ (s d : List ℕ) (given : PageWalk) {I : PageWalk → Type 0} (Q : Answ
   by-answer (sought.End w) i = ends w i
   by-answer sought.Beyond i = refuses BeyondStarts
 
-  pub by-call : outOfRange given (length s) ≡ false → given .ended ≡ false → I given → Q (call s d given)
-  by-call f g i = subst Q (sym (call-live s d given refl f g)) (by-answer (seek s given) (by-seek s k given i))
+  pub by-call : (outOfRange given (length s) ≡ true → Q (refused (numberOf StateOutOfRange) given)) → (outOfRange given (length s) ≡ false → I given) → Q (call s d given)
+  unfolding call
+  by-call out i =
+      both-picks (λ a (u : Unit {0}). Q a) (outOfRange given (length s)) _ _ tt tt out
+      (λ e. by-pick Q (given .ended) _ _ (ends given (i e)) (by-answer (seek s given) (by-seek s k given (i e))))

@@ -59,7 +59,7 @@ module _ (s d : List ℕ) (short : length d < 2 ^ 64) where
       (λ e. tt)
       (λ v i. tt)
       (λ v n i. by-pick Goes (eqb (nextOf (v .segment .«pointer_format») n) 0) _ _ i i)
-      (in-range w h) (h .live) h
+      (λ o. tt) (λ e. h)
 
   -- calls from any state that goes on, made up or not, say what it has still to list; so every walk ends
   pub walks : (w : PageWalk) → Goes w → Walks (call s d) w (heard (ahead s d w))
