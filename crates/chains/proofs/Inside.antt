@@ -1,7 +1,7 @@
 -- What a call hands out and back. Assumes nothing.
 use Prim.Native.Nat.{ℕ, zero, suc, _+_, _-_, _*_, _≤_, _<_}
 use mathlib.Core.Path.{_≡_, refl, subst}
-use mathlib.Core.Bool.{Bool, true, false, cond}
+use mathlib.Core.Bool.{true}
 use mathlib.Core.List.{List}
 use native.Mathlib.Omega.{arith}
 use borrow.Author.Tests.{ltb-false}
@@ -13,7 +13,7 @@ use Rattle.chains.specs.declared.Segment.{Segment}
 use Rattle.chains.specs.declared.SegmentWalk.{SegmentWalk}
 use Rattle.chains.specs.declared.record.SegmentRead.{SegmentRead}
 use Rattle.chains.specs.declared.record.SegmentRead.the-variants.{Found, Fault}
-use Rattle.numbers.proofs.Picks.{by-pick}
+use Rattle.numbers.proofs.Picks.{by-pick, by-test}
 use Rattle.numbers.specs.LittleEndian.{littleEndian}
 use Rattle.refusal.specs.Numbers.{numberOf}
 use Rattle.refusal.specs.declared.Refusal.the-variants.{StateOutOfRange}
@@ -33,11 +33,8 @@ module _ (s : List ℕ) (P : Segment → Type 0) where
   by-found index at p =
       by-pick (IfFound P) (ltb (length s) (at + recordSize)) _ _ tt
       (by-pick (IfFound P) (ltb (littleEndian 4 s at) recordSize) _ _ tt
-      (by (ltb (length s) (at + recordSize + 2 * startsIn (littleEndian 4 s at))) refl))
-    where
-      by : (t : Bool) → ltb (length s) (at + recordSize + 2 * startsIn (littleEndian 4 s at)) ≡ t → IfFound P (cond t Fault (Found (recordOf s index at)))
-      by true e = tt
-      by false e = p (ltb-false (length s) (at + recordSize + 2 * startsIn (littleEndian 4 s at)) e)
+      (by-test (IfFound P) (ltb (length s) (at + recordSize + 2 * startsIn (littleEndian 4 s at))) _ _ (λ e. tt)
+      (λ e. p (ltb-false (length s) (at + recordSize + 2 * startsIn (littleEndian 4 s at)) e))))
 
   module _ (w : SegmentWalk) (all : (index at : ℕ) → index < w .count → IfFound P (recordAt s index at)) where
     recorded-yields : (v : SegmentWalk) (x : SegmentRead) → IfFound P x → IfItem P (recorded v x)

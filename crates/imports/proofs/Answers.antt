@@ -11,7 +11,7 @@ use Rattle.imports.specs.declared.Import.{Import}
 use Rattle.imports.specs.declared.ImportWalk.{ImportWalk}
 use Rattle.imports.specs.declared.record.ImportRead.{ImportRead}
 use Rattle.imports.specs.declared.record.ImportRead.the-variants.{Found, Refused}
-use Rattle.numbers.proofs.Picks.{by-pick, both-picks}
+use Rattle.numbers.proofs.Picks.{by-pick, by-test}
 use Rattle.refusal.specs.Numbers.{numberOf}
 use Rattle.refusal.specs.declared.Refusal.{Refusal}
 use Rattle.refusal.specs.declared.Refusal.the-variants.{StateOutOfRange}
@@ -32,5 +32,5 @@ module _ (s : List ℕ) (w : ImportWalk) (Q : Answer ImportWalk Import → Type 
   pub by-call : (outOfRange (w .place) (w .«symbols_offset») (length s) ≡ true → Q (refused (numberOf StateOutOfRange) w)) → Q (call s w)
   unfolding call
   by-call out =
-      both-picks (λ a (u : Unit {0}). Q a) (outOfRange (w .place) (w .«symbols_offset») (length s)) _ _ tt tt out
+      by-test Q (outOfRange (w .place) (w .«symbols_offset») (length s)) _ _ out
       (λ e. by-pick Q (w .ended) _ _ ends (by-next (w .left) (omega arith)))

@@ -1,12 +1,12 @@
 -- What holds of every answer of a call, by what holds of the states on the way. Assumes nothing.
 use Prim.Native.Nat.{ℕ, zero, suc, _+_, _-_, _<_}
 use mathlib.Core.Path.{_≡_, refl}
-use mathlib.Core.Bool.{Bool, true, false, cond}
+use mathlib.Core.Bool.{Bool, true, false}
 use mathlib.Core.List.{List}
 use native.Mathlib.Omega.{arith}
 use borrow.Author.Tests.{leb-false}
 use lib.ListN.{length}
-use Rattle.numbers.proofs.Picks.{by-pick, both-picks}
+use Rattle.numbers.proofs.Picks.{by-pick, by-test}
 use Rattle.numbers.proofs.Then.{by-number}
 use Rattle.numbers.specs.LittleEndian.{fieldAt}
 use Rattle.pages.proofs.Calls.{counted}
@@ -44,11 +44,10 @@ module _ (s : List ℕ) {I : PageWalk → Type 0} (k : Keeps I) where
 
   by-open : (w : PageWalk) (start : ℕ) → I w → Comes I (opened s w start)
   unfolding opened
-  by-open w start i = by (isMarked start) refl
-    where
-      by : (t : Bool) → isMarked start ≡ t → Comes I (cond t (chain s (toChain (unmarked start) w)) (sought.At (toPointer false (w .origin + start) w)))
-      by true e = by-chain (toChain (unmarked start) w) (k .to-list w (unmarked start) (omega arith) i)
-      by false e = k .to-pointer w false start (leb-false 0x8000 start e) i
+  by-open w start i =
+      by-test (Comes I) (isMarked start) _ _
+      (λ e. by-chain (toChain (unmarked start) w) (k .to-list w (unmarked start) (omega arith) i))
+      (λ e. k .to-pointer w false start (leb-false 0x8000 start e) i)
 
   by-pages : (n : ℕ) (w : PageWalk) → w .segment .«page_count» - w .page ≡ n → I w → Comes I (pages s n w)
   unfolding pages
@@ -80,5 +79,5 @@ module _ (s d : List ℕ) (given : PageWalk) {I : PageWalk → Type 0} (Q : Answ
   pub by-call : (outOfRange given (length s) ≡ true → Q (refused (numberOf StateOutOfRange) given)) → (outOfRange given (length s) ≡ false → I given) → Q (call s d given)
   unfolding call
   by-call out i =
-      both-picks (λ a (u : Unit {0}). Q a) (outOfRange given (length s)) _ _ tt tt out
+      by-test Q (outOfRange given (length s)) _ _ out
       (λ e. by-pick Q (given .ended) _ _ (ends given (i e)) (by-answer (seek s given) (by-seek s k given (i e))))
