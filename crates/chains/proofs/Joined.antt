@@ -8,6 +8,7 @@ use borrow.Author.Tests.{le-ltb, ltb-false}
 use lib.Dec.{ltb, eqb}
 use lib.ListN.{length}
 use Rattle.chains.proofs.Headers.{both-headers}
+use Rattle.chains.proofs.Inside.{by-call}
 use Rattle.chains.specs.Call.{atStart, begin, atIndex, recorded, seek, call}
 use Rattle.chains.specs.FixupChains.{headerAt, offsetAt, thenStarts, recordAt}
 use Rattle.chains.specs.Hear.{asEntry, hear}
@@ -16,7 +17,7 @@ use Rattle.chains.specs.declared.Segment.{Segment}
 use Rattle.chains.specs.declared.SegmentWalk.{SegmentWalk}
 use Rattle.chains.specs.declared.record.SegmentRead.{SegmentRead}
 use Rattle.chains.specs.declared.record.SegmentRead.the-variants.{Found, Fault}
-use Rattle.numbers.proofs.Picks.{by-pick, both-picks}
+use Rattle.numbers.proofs.Picks.{both-picks}
 use Rattle.numbers.proofs.Rows.{field-ends}
 use Rattle.numbers.proofs.Then.{both-numbers}
 use Rattle.numbers.specs.LittleEndian.{fieldAt}
@@ -48,18 +49,6 @@ module _ (s : List ℕ) where
         by true later = later
         by false later = says-record n i (omega arith) (recordAt s i (w .place + offsetAt s (w .place) i))
 
-    stays-record : (i : ℕ) → Inside w → (x : SegmentRead) → Stays Inside (asEntry (recorded (atIndex i w) x))
-    unfolding recorded
-    stays-record i h (Found x) = h
-    stays-record i h Fault = h
-
-    stays-seek : (n i : ℕ) → Inside w → Stays Inside (asEntry (seek s w n i))
-    unfolding seek
-    stays-seek zero i h = tt
-    stays-seek (suc n) i h =
-        by-pick (λ (a : Answer SegmentWalk Segment). Stays Inside (asEntry a)) (eqb (offsetAt s (w .place) i) 0) _ _ (stays-seek n (i + 1) h)
-        (stays-record (i + 1) h (recordAt s i (w .place + offsetAt s (w .place) i)))
-
     inside-call : Inside w → call s w ≡ seek s w (w .count - w .index) (w .index)
     unfolding call
     inside-call h = rw h
@@ -68,7 +57,8 @@ module _ (s : List ℕ) where
     says h = says-seek (w .count - w .index) (w .index) refl ∙ ap (λ (a : Answer SegmentWalk Segment). shown ahead (asEntry a)) (sym (inside-call h))
 
     stays : Inside w → Stays Inside (hear s w)
-    stays h = subst (λ (a : Answer SegmentWalk Segment). Stays Inside (asEntry a)) (sym (inside-call h)) (stays-seek (w .count - w .index) (w .index) h)
+    stays h =
+        by-call s w (λ (a : Answer SegmentWalk Segment). Stays Inside (asEntry a)) tt (λ i l. tt) (λ i l g e. h) (λ i l. h)
 
   -- calls from any state in range, made up or not, say what it has still to list; so every walk ends
   pub walks : (w : SegmentWalk) → Inside w → Walks (hear s) w (ahead w)
