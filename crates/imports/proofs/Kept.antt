@@ -20,6 +20,7 @@ module _ (s : List ℕ) (w : ImportWalk) where
   out-of-range e = rw e
 
   module _ (i : InRange (w .place) (w .«symbols_offset») (length s)) where
+    -- the state that is handed back with an end, and with a refusal
     abbrev Stands : Answer ImportWalk Import → Type 0
     Stands (item x v) = Unit {0}
     Stands (end v) = v ≡ w
