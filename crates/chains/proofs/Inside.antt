@@ -1,7 +1,7 @@
 -- What a call hands out and back. Assumes nothing.
 use Prim.Native.Nat.{ℕ, zero, suc, _+_, _-_, _*_, _≤_, _<_}
 use mathlib.Core.Path.{_≡_, refl, subst}
-use mathlib.Core.Bool.{Bool, true, false, cond}
+use mathlib.Core.Bool.{true}
 use mathlib.Core.List.{List}
 use native.Mathlib.Omega.{arith}
 use borrow.Author.Tests.{ltb-false}
@@ -13,12 +13,34 @@ use Rattle.chains.specs.declared.Segment.{Segment}
 use Rattle.chains.specs.declared.SegmentWalk.{SegmentWalk}
 use Rattle.chains.specs.declared.record.SegmentRead.{SegmentRead}
 use Rattle.chains.specs.declared.record.SegmentRead.the-variants.{Found, Fault}
-use Rattle.numbers.proofs.Picks.{by-pick}
+use Rattle.numbers.proofs.Picks.{by-pick, by-test}
 use Rattle.numbers.specs.LittleEndian.{littleEndian}
 use Rattle.refusal.specs.Numbers.{numberOf}
-use Rattle.refusal.specs.declared.Refusal.the-variants.{StateOutOfRange}
+use Rattle.refusal.specs.declared.Refusal.the-variants.{FaultyChains, StateOutOfRange}
 use Rattle.runs.proofs.Walks.{IfItem}
-use Rattle.runs.specs.Runs.{item, refused}
+use Rattle.runs.specs.Runs.{Answer, item, end, refused}
+
+-- ---- what holds of every answer of a call, by what holds of each kind of answer
+
+module _ (s : List ℕ) (w : SegmentWalk) (Q : Answer SegmentWalk Segment → Type 0) (out : Q (refused (numberOf StateOutOfRange) w))
+    (ends : (i : ℕ) → i ≤ w .index + (w .count - w .index) → Q (end (atIndex i w)))
+    (gives : (i : ℕ) → i < w .count → (g : Segment) → recordAt s i (w .place + offsetAt s (w .place) i) ≡ Found g → Q (item g (atIndex (i + 1) w)))
+    (refuses : (i : ℕ) → i < w .count → Q (refused (numberOf FaultyChains) (atIndex (i + 1) w))) where
+  by-record : (i : ℕ) → i < w .count → (x : SegmentRead) → recordAt s i (w .place + offsetAt s (w .place) i) ≡ x → Q (recorded (atIndex (i + 1) w) x)
+  unfolding recorded
+  by-record i l (Found g) e = gives i l g e
+  by-record i l Fault e = refuses i l
+
+  by-seek : (n i : ℕ) → w .count - i ≡ n → i + n ≤ w .index + (w .count - w .index) → Q (seek s w n i)
+  unfolding seek
+  by-seek zero i e l = ends i (omega arith)
+  by-seek (suc n) i e l =
+      by-pick Q (eqb (offsetAt s (w .place) i) 0) _ _ (by-seek n (i + 1) (omega arith) (omega arith)) (by-record i (omega arith) _ refl)
+
+  pub by-call : Q (call s w)
+  unfolding call
+  by-call =
+      by-pick Q (ltb (length s) (w .place + 4 + 4 * w .count)) _ _ out (by-seek (w .count - w .index) (w .index) refl (omega arith))
 
 -- ---- what holds of every record that is found, holds of every segment that is yielded
 
@@ -33,30 +55,14 @@ module _ (s : List ℕ) (P : Segment → Type 0) where
   by-found index at p =
       by-pick (IfFound P) (ltb (length s) (at + recordSize)) _ _ tt
       (by-pick (IfFound P) (ltb (littleEndian 4 s at) recordSize) _ _ tt
-      (by (ltb (length s) (at + recordSize + 2 * startsIn (littleEndian 4 s at))) refl))
-    where
-      by : (t : Bool) → ltb (length s) (at + recordSize + 2 * startsIn (littleEndian 4 s at)) ≡ t → IfFound P (cond t Fault (Found (recordOf s index at)))
-      by true e = tt
-      by false e = p (ltb-false (length s) (at + recordSize + 2 * startsIn (littleEndian 4 s at)) e)
+      (by-test (IfFound P) (ltb (length s) (at + recordSize + 2 * startsIn (littleEndian 4 s at))) _ _ (λ e. tt)
+      (λ e. p (ltb-false (length s) (at + recordSize + 2 * startsIn (littleEndian 4 s at)) e))))
 
   module _ (w : SegmentWalk) (all : (index at : ℕ) → index < w .count → IfFound P (recordAt s index at)) where
-    recorded-yields : (v : SegmentWalk) (x : SegmentRead) → IfFound P x → IfItem P (recorded v x)
-    unfolding recorded
-    recorded-yields v (Found g) h = h
-    recorded-yields v Fault h = tt
-
-    seek-yields : (n i : ℕ) → w .count - i ≡ n → IfItem P (seek s w n i)
-    unfolding seek
-    seek-yields zero i e = tt
-    seek-yields (suc n) i e =
-        by-pick (IfItem P) (eqb (offsetAt s (w .place) i) 0) _ _ (seek-yields n (i + 1) (omega arith))
-        (recorded-yields (atIndex (i + 1) w) (recordAt s i (w .place + offsetAt s (w .place) i)) (all i (w .place + offsetAt s (w .place) i) (omega arith)))
-
     pub yielded : {g : Segment} {v : SegmentWalk} → call s w ≡ item g v → P g
-    unfolding call
     yielded e =
         subst (IfItem P) e
-        (by-pick (IfItem P) (ltb (length s) (w .place + 4 + 4 * w .count)) _ _ tt (seek-yields (w .count - w .index) (w .index) refl))
+        (by-call s w (IfItem P) tt (λ i l. tt) (λ i l g f. subst (IfFound P) f (all i (w .place + offsetAt s (w .place) i) l)) (λ i l. tt))
 
 module _ (s : List ℕ) (w : SegmentWalk) where
   abbrev StartsInside : Segment → Type 0

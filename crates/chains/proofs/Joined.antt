@@ -8,7 +8,8 @@ use borrow.Author.Tests.{le-ltb, ltb-false}
 use lib.Dec.{ltb, eqb}
 use lib.ListN.{length}
 use Rattle.chains.proofs.Headers.{both-headers}
-use Rattle.chains.specs.Call.{begin, atIndex, recorded, seek, call}
+use Rattle.chains.proofs.Inside.{by-call}
+use Rattle.chains.specs.Call.{atStart, begin, atIndex, recorded, seek, call}
 use Rattle.chains.specs.FixupChains.{headerAt, offsetAt, thenStarts, recordAt}
 use Rattle.chains.specs.Hear.{asEntry, hear}
 use Rattle.chains.specs.Listing.{Entry, entry, segments, listing}
@@ -16,11 +17,11 @@ use Rattle.chains.specs.declared.Segment.{Segment}
 use Rattle.chains.specs.declared.SegmentWalk.{SegmentWalk}
 use Rattle.chains.specs.declared.record.SegmentRead.{SegmentRead}
 use Rattle.chains.specs.declared.record.SegmentRead.the-variants.{Found, Fault}
-use Rattle.numbers.proofs.Picks.{by-pick, both-picks}
+use Rattle.numbers.proofs.Picks.{both-picks}
 use Rattle.numbers.proofs.Rows.{field-ends}
 use Rattle.numbers.proofs.Then.{both-numbers}
 use Rattle.numbers.specs.LittleEndian.{fieldAt}
-use Rattle.runs.proofs.Walks.{shown, Stays, walks-ahead, walks-one}
+use Rattle.runs.proofs.Walks.{shown, Stays, Starts, walks-ahead, walks-one}
 use Rattle.runs.specs.Runs.{Begin, begun, notBegun, Answer, Run, fails, gives, Walks}
 
 module _ (s : List ℕ) where
@@ -48,18 +49,6 @@ module _ (s : List ℕ) where
         by true later = later
         by false later = says-record n i (omega arith) (recordAt s i (w .place + offsetAt s (w .place) i))
 
-    stays-record : (i : ℕ) → Inside w → (x : SegmentRead) → Stays Inside (asEntry (recorded (atIndex i w) x))
-    unfolding recorded
-    stays-record i h (Found x) = h
-    stays-record i h Fault = h
-
-    stays-seek : (n i : ℕ) → Inside w → Stays Inside (asEntry (seek s w n i))
-    unfolding seek
-    stays-seek zero i h = tt
-    stays-seek (suc n) i h =
-        by-pick (λ (a : Answer SegmentWalk Segment). Stays Inside (asEntry a)) (eqb (offsetAt s (w .place) i) 0) _ _ (stays-seek n (i + 1) h)
-        (stays-record (i + 1) h (recordAt s i (w .place + offsetAt s (w .place) i)))
-
     inside-call : Inside w → call s w ≡ seek s w (w .count - w .index) (w .index)
     unfolding call
     inside-call h = rw h
@@ -68,43 +57,37 @@ module _ (s : List ℕ) where
     says h = says-seek (w .count - w .index) (w .index) refl ∙ ap (λ (a : Answer SegmentWalk Segment). shown ahead (asEntry a)) (sym (inside-call h))
 
     stays : Inside w → Stays Inside (hear s w)
-    stays h = subst (λ (a : Answer SegmentWalk Segment). Stays Inside (asEntry a)) (sym (inside-call h)) (stays-seek (w .count - w .index) (w .index) h)
-
-  -- ---- a start
-
-  record Begins (w : SegmentWalk) (r : Run (Entry Segment)) : Type 0 where
-    inside : Inside w
-    all : r ≡ ahead w
-
-  abbrev Starts : Begin SegmentWalk → Run (Entry Segment) → Type 0
-  Starts (begun w) r = Begins w r
-  Starts (notBegun n) r = r ≡ fails n
-
-  starts : Starts (begin s) (listing s)
-  unfolding begin listing thenStarts
-  starts =
-      both-headers Starts (headerAt s) _ _ _ _ (λ n. refl)
-      (λ h.
-      both-numbers Starts (fieldAt 4 s (h .«starts_offset»)) _ _ _ _ refl
-      (λ count at e.
-      both-picks Starts (ltb (length s) (at + 4 * count)) _ _ _ _ (λ f. refl)
-      (λ f.
-      record {
-        inside = le-ltb (length s) (h .«starts_offset» + 4 + 4 * count) (omega (arith, ltb-false (length s) (at + 4 * count) f, field-ends 4 s (h .«starts_offset») refl e));
-        all = let z : count ≡ count - 0 = omega arith in ap (λ (n : ℕ). segments s (h .«starts_offset») n 0) z;
-      })))
+    stays h =
+        by-call s w (λ (a : Answer SegmentWalk Segment). Stays Inside (asEntry a)) tt (λ i l. tt) (λ i l g e. h) (λ i l. h)
 
   -- calls from any state in range, made up or not, say what it has still to list; so every walk ends
   pub walks : (w : SegmentWalk) → Inside w → Walks (hear s) w (ahead w)
   walks = walks-ahead (hear s) ahead Inside says stays
 
+  -- ---- a start
+
+  abbrev Lists : Begin SegmentWalk → Run (Entry Segment) → Type 0
+  Lists = Starts (hear s) (λ n r. r ≡ fails n)
+
+  starts : Lists (begin s) (listing s)
+  unfolding begin listing thenStarts
+  starts =
+      both-headers Lists (headerAt s) _ _ _ _ (λ n. refl)
+      (λ h.
+      both-numbers Lists (fieldAt 4 s (h .«starts_offset»)) _ _ _ _ refl
+      (λ count at e.
+      both-picks Lists (ltb (length s) (at + 4 * count)) _ _ _ _ (λ f. refl)
+      (λ f.
+      let w = atStart (h .«starts_offset») count in
+      let z : count - 0 ≡ count = omega arith in
+      subst (λ (n : ℕ). Walks (hear s) w (segments s (h .«starts_offset») n 0)) z
+      (walks w (le-ltb (length s) (h .«starts_offset» + 4 + 4 * count) (omega (arith, ltb-false (length s) (at + 4 * count) f, field-ends 4 s (h .«starts_offset») refl e)))))))
+
   pub joined : (w : SegmentWalk) → begin s ≡ begun w → Walks (hear s) w (listing s)
-  joined w e =
-      let b = subst (λ (x : Begin SegmentWalk). Starts x (listing s)) e starts in
-      subst (Walks (hear s) w) (sym (b .all)) (walks w (b .inside))
+  joined w e = subst (λ (b : Begin SegmentWalk). Lists b (listing s)) e starts
 
   pub joined-only : (w : SegmentWalk) {r : Run (Entry Segment)} → begin s ≡ begun w → Walks (hear s) w r → r ≡ listing s
   joined-only w e h = walks-one (hear s) h (joined w e)
 
   pub not-begun : {n : ℕ} → begin s ≡ notBegun n → listing s ≡ fails n
-  not-begun e = subst (λ (x : Begin SegmentWalk). Starts x (listing s)) e starts
+  not-begun e = subst (λ (b : Begin SegmentWalk). Lists b (listing s)) e starts

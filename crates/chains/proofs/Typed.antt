@@ -1,19 +1,17 @@
 -- What is read is such as its types have: a header, a segment, and the states of a walk, which a start and every call give. Refusals have a
 -- number of the table. Assumes nothing.
-use Prim.Native.Nat.{ℕ, zero, suc, _+_, _-_, _*_, _^_, _<_}
+use Prim.Native.Nat.{ℕ, _+_, _*_, _^_, _<_}
 use mathlib.Core.Path.{_≡_, refl, subst}
 use mathlib.Core.Bool.{not}
 use mathlib.Core.List.{List}
 use native.Mathlib.Omega.{arith}
 use lib.Dec.{ltb, eqb}
 use lib.ListN.{length}
-use Rattle.chains.specs.Call.{begin, atIndex, recorded, seek, call}
-use Rattle.chains.specs.FixupChains.{HeaderAt, header, noHeader, headerAt, offsetAt, thenStarts, recordAt}
+use Rattle.chains.specs.Call.{begin, atIndex, call}
+use Rattle.chains.specs.FixupChains.{HeaderAt, header, noHeader, headerAt, thenStarts}
 use Rattle.chains.specs.declared.Segment.{Segment}
 use Rattle.chains.specs.declared.SegmentWalk.{SegmentWalk}
 use Rattle.chains.specs.declared.header.Header.{Header}
-use Rattle.chains.specs.declared.record.SegmentRead.{SegmentRead}
-use Rattle.chains.specs.declared.record.SegmentRead.the-variants.{Found, Fault}
 use Rattle.numbers.proofs.Picks.{by-pick}
 use Rattle.numbers.proofs.Rows.{field-less}
 use Rattle.numbers.proofs.Then.{by-number}
@@ -22,9 +20,9 @@ use Rattle.numbers.specs.LittleEndian.{littleEndian, fieldAt}
 use Rattle.refusal.proofs.Numbered.{IsNumber, is-number}
 use Rattle.refusal.specs.declared.Refusal.the-variants.{FaultyChains, StateOutOfRange}
 use Rattle.runs.proofs.Walks.{IfBegun, Hands}
-use Rattle.runs.specs.Runs.{begun, Answer, item}
+use Rattle.runs.specs.Runs.{begun, item}
 use Rattle.chains.proofs.Headers.{by-header}
-use Rattle.chains.proofs.Inside.{by-found, yielded}
+use Rattle.chains.proofs.Inside.{by-call, by-found, yielded}
 
 -- ---- a header
 
@@ -77,29 +75,13 @@ typed-begin s b e =
 
 -- a call
 module _ (s : List ℕ) (w : SegmentWalk) (t : Typed w) where
-  abbrev Good : Answer SegmentWalk Segment → Type 0
-  Good = Hands Typed IsNumber
-
   at-index : {i : ℕ} → i < 2 ^ 64 → Typed (atIndex i w)
   at-index h = record { place = t .place; count = t .count; index = h }
 
-  good-record : {i : ℕ} → i < 2 ^ 64 → (x : SegmentRead) → Good (recorded (atIndex i w) x)
-  unfolding recorded
-  good-record h (Found g) = at-index h
-  good-record h Fault = (at-index h, is-number FaultyChains)
-
-  good-seek : (n i : ℕ) → i + n < 2 ^ 64 → Good (seek s w n i)
-  unfolding seek
-  good-seek zero i h = at-index (omega arith)
-  good-seek (suc n) i h =
-      by-pick Good (eqb (offsetAt s (w .place) i) 0) _ _ (good-seek n (i + 1) (omega arith))
-      (good-record (omega arith) (recordAt s i (w .place + offsetAt s (w .place) i)))
-
-  pub typed-call : Good (call s w)
-  unfolding call
+  pub typed-call : Hands Typed IsNumber (call s w)
   typed-call =
-      by-pick Good (ltb (length s) (w .place + 4 + 4 * w .count)) _ _ (t, is-number StateOutOfRange)
-      (good-seek (w .count - w .index) (w .index) (omega (arith, t .count, t .index)))
+      by-call s w (Hands Typed IsNumber) (t, is-number StateOutOfRange) (λ i l. at-index (omega (arith, t .count, t .index)))
+      (λ i l g e. at-index (omega (arith, t .count))) (λ i l. (at-index (omega (arith, t .count)), is-number FaultyChains))
 
 -- ---- a segment
 

@@ -1,12 +1,12 @@
 -- What is read lies in the bytes: the record of an import up to the place behind it, and its name with the NUL. Assumes nothing.
-use Prim.Native.Nat.{ℕ, zero, suc, _+_, _-_, _^_, _≤_, _<_}
+use Prim.Native.Nat.{ℕ, _+_, _-_, _^_, _≤_, _<_}
 use mathlib.Core.Path.{_≡_, refl, subst}
 use mathlib.Core.List.{List}
 use native.Mathlib.Omega.{arith}
 use lib.Dec.{eqb}
 use lib.IntN.{pos}
 use lib.ListN.{length}
-use Rattle.imports.specs.Call.{imported, next, outOfRange, call}
+use Rattle.imports.specs.Call.{call}
 use Rattle.imports.specs.ChainedImports.{signedAbove, narrow, wide, plainAt, addendAt, addend64At, recordAt, named, importAt}
 use Rattle.imports.specs.declared.Import.{Import}
 use Rattle.imports.specs.declared.ImportWalk.{ImportWalk}
@@ -24,6 +24,7 @@ use Rattle.numbers.specs.Parts.{partOf}
 use Rattle.numbers.specs.Strings.{stringAt}
 use Rattle.numbers.specs.declared.Number.the-variants.{Value}
 use Rattle.runs.specs.Runs.{Answer, item, end, refused}
+use Rattle.imports.proofs.Answers.{by-call}
 use Rattle.imports.proofs.Imports.{by-record}
 
 -- ---- what holds of whatever is read
@@ -86,21 +87,9 @@ module _ (s : List ℕ) (w : ImportWalk) (Q : Import → (next : ℕ) → Type 0
   Yields (end v) = Unit {0}
   Yields (refused number v) = Unit {0}
 
-  imported-yields : (left : ℕ) (x : ImportRead) → IfImport Q x → Yields (imported w left x)
-  unfolding imported
-  imported-yields left (import.Found x next) i = i
-  imported-yields left (import.Refused e) i = tt
-
-  next-yields : (n : ℕ) → Yields (next s w n)
-  unfolding next
-  next-yields zero = tt
-  next-yields (suc n) = imported-yields n (importAt s (w .«imports_format») (w .«symbols_offset») (w .place)) holds
-
   pub yielded : {x : Import} {v : ImportWalk} → call s w ≡ item x v → Q x (v .place)
-  unfolding call
   yielded e =
-      subst Yields e
-      (by-pick Yields (outOfRange (w .place) (w .«symbols_offset») (length s)) _ _ tt (by-pick Yields (w .ended) _ _ tt (next-yields (w .left))))
+      subst Yields e (by-call s w Yields tt (λ e. tt) (λ x at left l f. subst (IfImport Q) f holds) (λ o. tt))
 
 -- ---- what is read lies in the bytes
 
@@ -118,6 +107,9 @@ module _ (s : List ℕ) where
         addend64 = λ n a at next e. field-inside 8 s at refl e;
       })
       Inside (λ r next place len h l. record { ends = h; name = l })
+
+  pub found-inside : (w : ImportWalk) {x : Import} {next : ℕ} → importAt s (w .«imports_format») (w .«symbols_offset») (w .place) ≡ import.Found x next → Inside x next
+  found-inside w e = subst (IfImport Inside) e (import-inside (w .«imports_format») (w .«symbols_offset») (w .place))
 
   -- a call, from any state: `name` hands back the whole name
   pub named-whole : (w : ImportWalk) {x : Import} {v : ImportWalk} → call s w ≡ item x v → length (partOf s (x .place) (x .length)) ≡ x .length

@@ -12,12 +12,12 @@ use Rattle.imports.specs.declared.Import.{Import}
 use Rattle.imports.specs.declared.ImportWalk.{ImportWalk}
 use Rattle.imports.specs.declared.record.ImportRead.{ImportRead}
 use Rattle.imports.specs.declared.record.ImportRead.the-variants.{Found, Refused}
-use Rattle.runs.proofs.Walks.{shown, Stays, walks-ahead, walks-one}
+use Rattle.runs.proofs.Walks.{shown, Stays, Starts, walks-ahead, walks-one}
 use Rattle.runs.specs.Runs.{Begin, begun, notBegun, end, Run, fails, Walks}
-use Rattle.imports.proofs.Calls.{InRange}
+use Rattle.imports.proofs.Answers.{by-call}
+use Rattle.imports.proofs.Calls.{InRange, none-out}
 use Rattle.imports.proofs.Imports.{both-imports}
-use Rattle.imports.proofs.Inside.{IfImport, Inside, import-inside}
-use Rattle.imports.proofs.Kept.{in-range-call}
+use Rattle.imports.proofs.Inside.{found-inside}
 
 module _ (s : List ℕ) where
   -- a walk that goes on
@@ -33,8 +33,10 @@ module _ (s : List ℕ) where
 
   module _ (w : ImportWalk) where
     going-call : Going w → call s w ≡ next s w (w .left)
+    unfolding call
     going-call g =
-        in-range-call s w (g .range) ∙ ap (λ (t : Bool). cond t (end w) (next s w (w .left))) (g .live)
+        rw (none-out (w .place) (w .«symbols_offset») (length s) (g .range))
+        (ap (λ (t : Bool). cond t (end w) (next s w (w .left))) (g .live))
 
     says-read : (n : ℕ) (x : ImportRead) → thenRest (imports s (w .«imports_format») (w .«symbols_offset») n) x ≡ shown ahead (imported w n x)
     unfolding thenRest imported
@@ -49,20 +51,11 @@ module _ (s : List ℕ) where
     says : Going w → ahead w ≡ shown ahead (call s w)
     says g = says-next (w .left) ∙ ap (shown ahead) (sym (going-call g))
 
-    stays-read : Going w → (n : ℕ) (x : ImportRead) → IfImport (Inside s) x → Stays Going (imported w n x)
-    unfolding imported
-    stays-read g n (Found x at) i =
-        record { range = record { place-in = i .ends; symbols-in = g .range .symbols-in }; live = g .live }
-    stays-read g n (Refused e) i = tt
-
-    stays-next : Going w → (n : ℕ) → Stays Going (next s w n)
-    unfolding next
-    stays-next g zero = tt
-    stays-next g (suc n) =
-        stays-read g n (importAt s (w .«imports_format») (w .«symbols_offset») (w .place)) (import-inside s (w .«imports_format») (w .«symbols_offset») (w .place))
-
     stays : Going w → Stays Going (call s w)
-    stays g = subst (Stays Going) (sym (going-call g)) (stays-next g (w .left))
+    stays g =
+        by-call s w (Stays Going) tt (λ e. tt)
+        (λ x at left l e. record { range = record { place-in = found-inside s w e .ends; symbols-in = g .range .symbols-in }; live = g .live })
+        (λ o. tt)
 
   -- calls from any state that goes on say what is ahead of it, made up or not
   pub walks : (w : ImportWalk) → Going w → Walks (call s) w (ahead w)
@@ -70,27 +63,20 @@ module _ (s : List ℕ) where
 
   -- ---- a start
 
-  record Begins (w : ImportWalk) (r : Run Import) : Type 0 where
-    going : Going w
-    all : r ≡ ahead w
+  abbrev Lists : Begin ImportWalk → Run Import → Type 0
+  Lists = Starts (call s) (λ n r. r ≡ fails n)
 
-  abbrev Starts : Begin ImportWalk → Run Import → Type 0
-  Starts (begun w) r = Begins w r
-  Starts (notBegun n) r = r ≡ fails n
-
-  starts : Starts (begin s) (listing s)
+  starts : Lists (begin s) (listing s)
   unfolding begin listing
   starts =
-      both-imports Starts s _ _ _ _ (λ n. refl)
-      (λ h i j. record { going = record { range = record { place-in = i; symbols-in = j }; live = refl }; all = refl })
+      both-imports Lists s _ _ _ _ (λ n. refl)
+      (λ h i j. walks _ (record { range = record { place-in = i; symbols-in = j }; live = refl }))
 
   pub joined : (w : ImportWalk) → begin s ≡ begun w → Walks (call s) w (listing s)
-  joined w e =
-      let b = subst (λ (x : Begin ImportWalk). Starts x (listing s)) e starts in
-      subst (Walks (call s) w) (sym (b .all)) (walks w (b .going))
+  joined w e = subst (λ (b : Begin ImportWalk). Lists b (listing s)) e starts
 
   pub joined-only : (w : ImportWalk) {r : Run Import} → begin s ≡ begun w → Walks (call s) w r → r ≡ listing s
   joined-only w e h = walks-one (call s) h (joined w e)
 
   pub not-begun : {n : ℕ} → begin s ≡ notBegun n → listing s ≡ fails n
-  not-begun e = subst (λ (x : Begin ImportWalk). Starts x (listing s)) e starts
+  not-begun e = subst (λ (b : Begin ImportWalk). Lists b (listing s)) e starts

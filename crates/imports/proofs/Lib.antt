@@ -1,5 +1,6 @@
 pub mod Signs
 pub mod Imports
+pub mod Answers
 pub mod Calls
 pub mod Inside
 pub mod Kept

@@ -1,6 +1,6 @@
 -- States and items whose fields are such as their types have: a start gives such a state, and every call on one hands such a one back, and
 -- such an item. Refusals have a number of the table. Assumes nothing.
-use Prim.Native.Nat.{ℕ, zero, suc, _-_, _^_, _<_}
+use Prim.Native.Nat.{ℕ, _-_, _^_, _<_}
 use mathlib.Core.Path.{_≡_, refl, subst}
 use mathlib.Core.Bool.{not}
 use mathlib.Core.List.{List}
@@ -13,12 +13,10 @@ use mir.Val.{SFits}
 use Rattle.chains.proofs.Headers.{by-header}
 use Rattle.chains.proofs.Typed.{typed-header}
 use Rattle.chains.specs.FixupChains.{bits, headerAt}
-use Rattle.imports.specs.Call.{begin, marked, imported, next, outOfRange, call}
-use Rattle.imports.specs.ChainedImports.{thenImports, narrow, wide, importAt}
+use Rattle.imports.specs.Call.{begin, marked, passed, call}
+use Rattle.imports.specs.ChainedImports.{thenImports, narrow, wide}
 use Rattle.imports.specs.declared.Import.{Import}
 use Rattle.imports.specs.declared.ImportWalk.{ImportWalk}
-use Rattle.imports.specs.declared.record.ImportRead.{ImportRead}
-use Rattle.imports.specs.declared.record.ImportRead.the-variants.{Found, Refused}
 use Rattle.imports.specs.declared.record.ChainedImport.{ChainedImport}
 use Rattle.numbers.proofs.Picks.{by-pick}
 use Rattle.numbers.proofs.Rows.{field-less}
@@ -26,8 +24,9 @@ use Rattle.numbers.proofs.little_endian.Fields.{Bytes}
 use Rattle.refusal.proofs.Numbered.{IsNumber, is-number}
 use Rattle.refusal.specs.declared.Refusal.the-variants.{StateOutOfRange}
 use Rattle.runs.proofs.Walks.{IfBegun, Hands}
-use Rattle.runs.specs.Runs.{begun, Answer, item}
-use Rattle.imports.proofs.Inside.{IfImport, by-import, yielded, Inside, import-inside}
+use Rattle.runs.specs.Runs.{begun, item}
+use Rattle.imports.proofs.Answers.{by-call}
+use Rattle.imports.proofs.Inside.{by-import, yielded, found-inside}
 use Rattle.imports.proofs.Signs.{library-fits, addend-fits}
 
 -- ---- an item
@@ -86,26 +85,14 @@ typed-begin s b e =
 
 -- a call
 module _ (s : List ℕ) (short : length s < 2 ^ 64) (w : ImportWalk) (t : Typed w) where
-  abbrev Good : Answer ImportWalk Import → Type 0
-  Good = Hands Typed IsNumber
+  passes : (at left : ℕ) → at < 2 ^ 64 → left < 2 ^ 64 → Typed (passed at left w)
+  passes at left h l = record { place = h; «symbols_offset» = t .«symbols_offset»; left = l; «imports_format» = t .«imports_format» }
 
   ended : Typed (marked w)
   ended = record { place = t .place; «symbols_offset» = t .«symbols_offset»; left = t .left; «imports_format» = t .«imports_format» }
 
-  good-import : (left : ℕ) → left < 2 ^ 64 → (x : ImportRead) → IfImport (Inside s) x → Good (imported w left x)
-  unfolding imported
-  good-import left h (Found x at) i =
-      record { place = omega (arith, i .ends, short); «symbols_offset» = t .«symbols_offset»; left = h; «imports_format» = t .«imports_format» }
-  good-import left h (Refused e) i = (ended, is-number e)
-
-  good-next : (n : ℕ) → n < 2 ^ 64 → Good (next s w n)
-  unfolding next
-  good-next zero h = t
-  good-next (suc n) h =
-      good-import n (omega arith) (importAt s (w .«imports_format») (w .«symbols_offset») (w .place)) (import-inside s (w .«imports_format») (w .«symbols_offset») (w .place))
-
-  pub typed-call : Good (call s w)
-  unfolding call
+  pub typed-call : Hands Typed IsNumber (call s w)
   typed-call =
-      by-pick Good (outOfRange (w .place) (w .«symbols_offset») (length s)) _ _ (t, is-number StateOutOfRange)
-      (by-pick Good (w .ended) _ _ t (good-next (w .left) (t .left)))
+      by-call s w (Hands Typed IsNumber) t (λ e. (ended, is-number e))
+      (λ x at left l e. passes at left (omega (arith, found-inside s w e .ends, short)) (omega (arith, t .left)))
+      (λ o. (t, is-number StateOutOfRange))

@@ -31,6 +31,11 @@ pub by-pick : {A : Type 0} (P : A → Type 0) (t : Bool) (a b : A) → P a → P
 by-pick P true a b p q = p
 by-pick P false a b p q = q
 
+-- the same, where each may use how the test went
+pub by-test : {A : Type 0} (P : A → Type 0) (t : Bool) (a b : A) → (t ≡ true → P a) → (t ≡ false → P b) → P (cond t a b)
+by-test P true a b p q = p refl
+by-test P false a b p q = q refl
+
 -- what holds of two definitions that pick by one test
 pub both-picks : {A B : Type 0} (R : A → B → Type 0) (t : Bool) (a b : A) (c d : B) → (t ≡ true → R a c) → (t ≡ false → R b d) →
     R (cond t a b) (cond t c d)

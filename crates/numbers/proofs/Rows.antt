@@ -1,7 +1,7 @@
 -- Fields, and rows of fields of one width, as a caller reads and tests them: for `search`. `r` is what a call answered. Assumes nothing.
 use Prim.Native.Nat.{ℕ, _+_, _-_, _*_, _/_, _^_, _≤_, _<_}
 use mathlib.Core.Path.{_≡_, refl, sym, _∙_, subst}
-use mathlib.Core.Bool.{Bool, true, false, cond}
+use mathlib.Core.Bool.{true, false}
 use mathlib.Core.List.{List}
 use native.Mathlib.Decide.{decLt}
 use native.Mathlib.Nat.{div-lt-iff-lt-mul, le-div-iff-mul-le}
@@ -14,6 +14,7 @@ use mir.Val.{Fits}
 use Rattle.numbers.specs.LittleEndian.{littleEndian, fieldAt}
 use Rattle.numbers.specs.declared.Number.{Number}
 use Rattle.numbers.specs.declared.Number.the-variants.{Value, Fault}
+use Rattle.numbers.proofs.Picks.{by-test}
 use Rattle.numbers.proofs.little_endian.Fields.{Bytes, field-below}
 
 -- ---- a field
@@ -28,13 +29,11 @@ IfField n s at (Value v next) = Field n s at v next
 IfField n s at Fault = length s < at + n
 
 module _ (n : ℕ) (s : List ℕ) (at : ℕ) where
-  by-test : (t : Bool) → leb (at + n) (length s) ≡ t → IfField n s at (cond t (Value (littleEndian n s at) (at + n)) Fault)
-  by-test true e = record { fits = leb-true (at + n) (length s) e; is = refl; ends = refl }
-  by-test false e = leb-false (at + n) (length s) e
-
   field : {r q : Number} → r ≡ fieldAt n s at → r ≡ q → IfField n s at q
   unfolding fieldAt
-  field e f = subst (IfField n s at) (sym e ∙ f) (by-test (leb (at + n) (length s)) refl)
+  field e f =
+      subst (IfField n s at) (sym e ∙ f)
+      (by-test (IfField n s at) (leb (at + n) (length s)) _ _ (λ t. record { fits = leb-true (at + n) (length s) t; is = refl; ends = refl }) (leb-false (at + n) (length s)))
 
   module _ {r : Number} {v next : ℕ} (e : r ≡ fieldAt n s at) (f : r ≡ Value v next) where
     pub field-inside : next ≤ length s

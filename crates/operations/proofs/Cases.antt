@@ -1,15 +1,13 @@
 -- What holds of each row of a table holds of the operation at a place. Assumes nothing.
 use Prim.Native.Nat.{ℕ, _+_, _*_, _/_, _%_, _≤_, _<_}
-use mathlib.Core.Path.{_≡_, refl}
-use mathlib.Core.Bool.{Bool, true, false, cond}
 use mathlib.Core.List.{List, [], _∷_}
 use mathlib.Core.Option.{Option, some}
 use native.Mathlib.Omega.{arith}
 use borrow.Author.Tests.{ltb-true, ltb-false}
 use lib.Dec.{ltb, eqb}
 use lib.ListN.{length, getD}
-use Rattle.numbers.proofs.Picks.{by-pick}
-use Rattle.operations.specs.Table.{Parsed, faulty, noBytes, Operands, Row, _⇒_, operandsAt, lookedUp, operandsOf, foundAt, operationAt}
+use Rattle.numbers.proofs.Picks.{by-pick, by-test}
+use Rattle.operations.specs.Table.{Parsed, faulty, noBytes, Operands, Row, _⇒_, operandsAt, lookedUp, foundAt, operationAt}
 use Rattle.refusal.specs.declared.Refusal.{Refusal}
 use Rattle.refusal.specs.declared.Refusal.the-variants.{UnknownOpcode}
 
@@ -30,12 +28,9 @@ module _ {Op : Type 0} (P : Parsed Op → Type 0) (bad : (e : Refusal) → P (fa
         by-pick (λ (o : Option (Operands Op)). P (foundAt s at o)) (eqb opcode k) (some operands) (lookedUp opcode rows) (h .0) (by-row opcode rows (h .1))
 
   module _ (table : ℕ → List (Row Op)) (s : List ℕ) (at : ℕ) (rows : at < length s → (imm : ℕ) → imm < 16 → Each s (at + 1) (table imm)) (none : length s ≤ at → P noBytes) where
-    by-test : (t : Bool) → ltb at (length s) ≡ t →
-        P (cond t (foundAt s (at + 1) (operandsOf table (getD s at 0))) noBytes)
-    by-test true e =
-        by-row s (at + 1) (getD s at 0 / 16 * 16) (table (getD s at 0 % 16)) (rows (ltb-true at (length s) e) (getD s at 0 % 16) (omega arith))
-    by-test false e = none (ltb-false at (length s) e)
-
     pub by-table : P (operationAt table s at)
     unfolding operationAt
-    by-table = by-test (ltb at (length s)) refl
+    by-table =
+        by-test P (ltb at (length s)) _ _
+        (λ e. by-row s (at + 1) (getD s at 0 / 16 * 16) (table (getD s at 0 % 16)) (rows (ltb-true at (length s) e) (getD s at 0 % 16) (omega arith)))
+        (λ e. none (ltb-false at (length s) e))

@@ -2,7 +2,7 @@
 -- an opcode is unknown. The laws are about the definitions alone. Assumes nothing.
 use Prim.Native.Nat.{ℕ, _+_, _≤_, _<_}
 use mathlib.Core.Path.{_≡_, refl, ap, sym, _∙_, subst}
-use mathlib.Core.Bool.{Bool, true, false, cond}
+use mathlib.Core.Bool.{cond}
 use mathlib.Core.List.{List}
 use mathlib.Core.Option.{Option, none, some}
 use native.Mathlib.Omega.{arith}
@@ -11,6 +11,7 @@ use lib.Dec.{ltb}
 use lib.ListN.{length, getD}
 use Rattle.numbers.proofs.Laws.{uleb-read, sleb-read, string-read}
 use Rattle.numbers.proofs.Local.{Decided, later, decides, decides-then, byte-local, below-local, uleb-local, sleb-local, string-local}
+use Rattle.numbers.proofs.Picks.{by-test}
 use Rattle.numbers.proofs.Then.{by-unsigned, by-signed, by-text}
 use Rattle.numbers.specs.Leb128.{ulebAt, slebAt}
 use Rattle.numbers.specs.Strings.{stringAt}
@@ -102,13 +103,10 @@ module _ {Op : Type 0} (table : ℕ → List (Row Op)) (s : List ℕ) (at : ℕ)
   by-operands h none e = λ g. by-byte h none e (omega arith) (record { inside = omega arith; same = λ r f. refl })
   by-operands h (some o) e = if-found h o e (operandsAt s (at + 1) o) (if-operands s (at + 1) (omega arith) o)
 
-  by-test : (t : Bool) → ltb at (length s) ≡ t → IfOperation (cond t (foundAt s (at + 1) (operandsOf table (getD s at 0))) noBytes)
-  by-test true e = by-operands (ltb-true at (length s) e) (operandsOf table (getD s at 0)) refl
-  by-test false e = tt
-
   if-operation : IfOperation (operationAt table s at)
   unfolding operationAt
-  if-operation = by-test (ltb at (length s)) refl
+  if-operation =
+      by-test IfOperation (ltb at (length s)) _ _ (λ e. by-operands (ltb-true at (length s) e) (operandsOf table (getD s at 0)) refl) (λ e. tt)
 
   pub operation-local : {op : Op} {next : ℕ} → operationAt table s at ≡ operation op next → Decided (λ r. operationAt table r at) s next
   operation-local e = subst IfOperation e if-operation

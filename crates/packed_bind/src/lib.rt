@@ -16,6 +16,7 @@ use bind::Registers;
 use cursor::Cursor;
 use packing::bit;
 use packing::is_record;
+use packing::report;
 use packing::signed;
 use packing::unsigned;
 use packing::word;
@@ -92,8 +93,7 @@ fn begin(start: BindStart, state: &mut [u8]) -> u64
     }
     match start {
         BindStart::Begun(w) => {
-            let kept = words(w);
-            write(&kept, state);
+            write(&words(w), state);
             0
         }
         BindStart::Refused(e) => e.number() as u64,
@@ -119,25 +119,9 @@ fn tell(answer: BindStep, state: &mut [u8], item: &mut [u8]) -> u64
     ensures { λ r. ⌜ (r, now (state .exit), now (item .exit)) ≡ stepTold states items (told answer) ⌝ }
 {
     match answer {
-        BindStep::Item(w, x) => {
-            let kept = words(w);
-            write(&kept, state);
-            let found = item_words(x);
-            write(&found, item);
-            0
-        }
-        BindStep::End(w) => {
-            let kept = words(w);
-            write(&kept, state);
-            write(&[0; ITEM], item);
-            256
-        }
-        BindStep::Refused(w, e) => {
-            let kept = words(w);
-            write(&kept, state);
-            write(&[0; ITEM], item);
-            e.number() as u64
-        }
+        BindStep::Item(w, x) => report(0, &words(w), &item_words(x), state, item),
+        BindStep::End(w) => report(256, &words(w), &[0; ITEM], state, item),
+        BindStep::Refused(w, e) => report(e.number() as u64, &words(w), &[0; ITEM], state, item),
     }
 }
 

@@ -11,6 +11,7 @@ use imports::ImportStep;
 use imports::ImportWalk;
 use packing::bit;
 use packing::is_record;
+use packing::report;
 use packing::unsigned;
 use packing::word;
 use packing::write;
@@ -27,8 +28,7 @@ pub fn start(s: &[u8], state: &mut [u8]) -> u64
     }
     match ImportWalk::start(s) {
         ImportStart::Begun(w) => {
-            let kept = words(w);
-            write(&kept, state);
+            write(&words(w), state);
             0
         }
         ImportStart::Refused(e) => e.number() as u64,
@@ -54,25 +54,9 @@ fn tell(answer: ImportStep, state: &mut [u8], item: &mut [u8]) -> u64
     ensures { λ r. ⌜ (r, now (state .exit), now (item .exit)) ≡ stepTold states items (told answer) ⌝ }
 {
     match answer {
-        ImportStep::Item(w, x) => {
-            let kept = words(w);
-            write(&kept, state);
-            let found = item_words(x);
-            write(&found, item);
-            0
-        }
-        ImportStep::End(w) => {
-            let kept = words(w);
-            write(&kept, state);
-            write(&[0, 0, 0, 0, 0], item);
-            256
-        }
-        ImportStep::Refused(w, e) => {
-            let kept = words(w);
-            write(&kept, state);
-            write(&[0, 0, 0, 0, 0], item);
-            e.number() as u64
-        }
+        ImportStep::Item(w, x) => report(0, &words(w), &item_words(x), state, item),
+        ImportStep::End(w) => report(256, &words(w), &[0; 5], state, item),
+        ImportStep::Refused(w, e) => report(e.number() as u64, &words(w), &[0; 5], state, item),
     }
 }
 

@@ -13,6 +13,7 @@ ghost use Rattle.packed_pages.specs.Packed.{stateFields, stateWords, sta
 use chains::Segment;
 use packing::bit;
 use packing::is_record;
+use packing::report;
 use packing::word;
 use packing::write;
 use pages::PageStart;
@@ -63,8 +64,7 @@ pub fn start(s: &[u8], segment: &[u8], base: u64, state: &mut [u8]) -> u64
     if is_record(segment, &SEGMENT) {
         match PageWalk::start(s, held_segment(segment), base) {
             PageStart::Begun(w) => {
-                let kept = words(w);
-                write(&kept, state);
+                write(&words(w), state);
                 return 0;
             }
             PageStart::Refused(e) => {
@@ -94,25 +94,9 @@ fn tell(answer: PageStep, state: &mut [u8], item: &mut [u8]) -> u64
     ensures { λ r. ⌜ (r, now (state .exit), now (item .exit)) ≡ stepTold states items (told answer) ⌝ }
 {
     match answer {
-        PageStep::Item(w, x) => {
-            let kept = words(w);
-            write(&kept, state);
-            let found = item_words(x);
-            write(&found, item);
-            0
-        }
-        PageStep::End(w) => {
-            let kept = words(w);
-            write(&kept, state);
-            write(&[0, 0, 0, 0, 0], item);
-            256
-        }
-        PageStep::Refused(w, e) => {
-            let kept = words(w);
-            write(&kept, state);
-            write(&[0, 0, 0, 0, 0], item);
-            e.number() as u64
-        }
+        PageStep::Item(w, x) => report(0, &words(w), &item_words(x), state, item),
+        PageStep::End(w) => report(256, &words(w), &[0; 5], state, item),
+        PageStep::Refused(w, e) => report(e.number() as u64, &words(w), &[0; 5], state, item),
     }
 }
 

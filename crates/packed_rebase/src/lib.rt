@@ -11,6 +11,7 @@ ghost use Rattle.packed_rebase.specs.Packed.{largest, stateWords, stateA
 use cursor::Cursor;
 use packing::bit;
 use packing::is_record;
+use packing::report;
 use packing::word;
 use packing::write;
 use rebase::Rebase;
@@ -54,8 +55,7 @@ pub fn start(size: u64, state: &mut [u8]) -> u64
     }
     match RebaseWalk::start(size as u8) {
         RebaseStart::Begun(w) => {
-            let kept = words(w);
-            write(&kept, state);
+            write(&words(w), state);
             0
         }
         RebaseStart::Refused(e) => e.number() as u64,
@@ -81,24 +81,15 @@ fn tell(answer: RebaseStep, state: &mut [u8], item: &mut [u8]) -> u64
     ensures { λ r. ⌜ (r, now (state .exit), now (item .exit)) ≡ stepTold states items (told answer) ⌝ }
 {
     match answer {
-        RebaseStep::Item(w, x) => {
-            let kept = words(w);
-            write(&kept, state);
-            write(&[x.segment as u64, x.offset, x.kind as u64], item);
-            0
-        }
-        RebaseStep::End(w) => {
-            let kept = words(w);
-            write(&kept, state);
-            write(&[0; ITEM], item);
-            256
-        }
-        RebaseStep::Refused(w, e) => {
-            let kept = words(w);
-            write(&kept, state);
-            write(&[0; ITEM], item);
-            e.number() as u64
-        }
+        RebaseStep::Item(w, x) => report(
+            0,
+            &words(w),
+            &[x.segment as u64, x.offset, x.kind as u64],
+            state,
+            item,
+        ),
+        RebaseStep::End(w) => report(256, &words(w), &[0; ITEM], state, item),
+        RebaseStep::Refused(w, e) => report(e.number() as u64, &words(w), &[0; ITEM], state, item),
     }
 }
 

@@ -10,6 +10,7 @@ use chains::SegmentStart;
 use chains::SegmentStep;
 use chains::SegmentWalk;
 use packing::is_record;
+use packing::report;
 use packing::word;
 use packing::write;
 
@@ -25,8 +26,7 @@ pub fn start(s: &[u8], state: &mut [u8]) -> u64
     }
     match SegmentWalk::start(s) {
         SegmentStart::Begun(w) => {
-            let kept = words(w);
-            write(&kept, state);
+            write(&words(w), state);
             0
         }
         SegmentStart::Refused(e) => e.number() as u64,
@@ -52,25 +52,9 @@ fn tell(answer: SegmentStep, state: &mut [u8], item: &mut [u8]) -> u64
     ensures { λ r. ⌜ (r, now (state .exit), now (item .exit)) ≡ stepTold states items (told answer) ⌝ }
 {
     match answer {
-        SegmentStep::Item(w, x) => {
-            let kept = words(w);
-            write(&kept, state);
-            let found = item_words(x);
-            write(&found, item);
-            0
-        }
-        SegmentStep::End(w) => {
-            let kept = words(w);
-            write(&kept, state);
-            write(&[0, 0, 0, 0, 0, 0, 0, 0], item);
-            256
-        }
-        SegmentStep::Refused(w, e) => {
-            let kept = words(w);
-            write(&kept, state);
-            write(&[0, 0, 0, 0, 0, 0, 0, 0], item);
-            e.number() as u64
-        }
+        SegmentStep::Item(w, x) => report(0, &words(w), &item_words(x), state, item),
+        SegmentStep::End(w) => report(256, &words(w), &[0; 8], state, item),
+        SegmentStep::Refused(w, e) => report(e.number() as u64, &words(w), &[0; 8], state, item),
     }
 }
 

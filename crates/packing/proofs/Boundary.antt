@@ -1,12 +1,12 @@
 -- A start and a step at the boundary, by what their parts answered: for `search`. Assumes nothing.
 use Prim.Native.Nat.{ℕ, _*_}
-use mathlib.Core.Path.{_≡_, sym, ap, _∙_}
+use mathlib.Core.Path.{_≡_, refl, sym, ap, _∙_}
 use mathlib.Core.Bool.{Bool, true, false, cond}
 use mathlib.Core.List.{List}
 use borrow.Author.Tests.{eq-eqb, ne-eqb}
 use lib.ListN.{length}
 use Rattle.packing.specs.Boundary.{States, Items, unfit, startTold, started, stepTold, stepped}
-use Rattle.packing.specs.Words.{bytesOf, written}
+use Rattle.packing.specs.Words.{bytesOf, written, reported}
 use Rattle.runs.specs.Runs.{Begin, notBegun, Answer}
 
 -- what a test `b` of the code's says of what it tests
@@ -75,6 +75,10 @@ module _ {W X : Type 0} (S : States W) (I : Items X) (call : W → Answer W X) (
   pub carried : S .holds (S .bytes w) ≡ true → S .value (S .bytes w) ≡ w → (item : List ℕ) → length item ≡ I .long →
       stepped S I (S .bytes w) item call ≡ stepTold S I (call w)
   carried h e item l = by-state S I (S .bytes w) item call l h ∙ ap (λ (v : W). stepTold S I (call v)) e
+
+-- an answer is reported
+pub reports : {y : ℕ × List ℕ × List ℕ} {m n : ℕ} (kept found state item vs ws : List ℕ) → y ≡ reported m kept found state item → m ≡ n → kept ≡ vs → found ≡ ws → length state ≡ 8 * length vs → length item ≡ 8 * length ws → y ≡ (n, bytesOf vs, bytesOf ws)
+reports kept found state item vs ws e q f g l k = e ∙ three q (over state kept vs refl f l) (over item found ws refl g k)
 
 -- what an answer `r` of the walk's own tells
 module _ {W X R : Type 0} (S : States W) (I : Items X) (T : R → Answer W X) where

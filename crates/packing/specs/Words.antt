@@ -31,3 +31,7 @@ bytesOf (v ∷ vs) = wordBytes v ++ bytesOf vs
 -- bytes with words written over them: all of them, or none where they have another length
 unfoldable pub written : (words bytes : List ℕ) → List ℕ
 written vs s = cond (eqb (length s) (8 * length vs)) (bytesOf vs) s
+
+-- an answer's number, with the words of a state and those of an item written over their bytes
+abbrev pub reported : (number : ℕ) (kept found state item : List ℕ) → ℕ × List ℕ × List ℕ
+reported number kept found state item = (number, written kept state, written found item)

@@ -4,7 +4,7 @@ ghost use Prim.Native.Nat.{_+_, _≤_};
 ghost use lib.ListN.{length};
 ghost use lib.Seq.{sets};
 ghost use Rattle.packing.specs.Fields.{bit, isRecord, signedOf, unsignedOf};
-ghost use Rattle.packing.specs.Words.{wordAt, wordBytes, written};
+ghost use Rattle.packing.specs.Words.{wordAt, wordBytes, written, reported};
 use numbers::Number;
 use numbers::little_endian::read_u64;
 
@@ -60,6 +60,15 @@ pub fn write(words: &[u64], s: &mut [u8])
         put(words[i], s, 8 * i);
         i += 1;
     }
+}
+
+// An answer: its number, with the words of the state and those of the item, each written over its bytes.
+pub fn report(number: u64, kept: &[u64], found: &[u64], state: &mut [u8], item: &mut [u8]) -> u64
+    ensures { λ r. ⌜ (r, now (state .exit), now (item .exit)) ≡ reported number (now (kept .entry)) (now (found .entry)) (now (state .entry)) (now (item .entry)) ⌝ }
+{
+    write(kept, state);
+    write(found, item);
+    number
 }
 
 fn put(word: u64, s: &mut [u8], at: usize)

@@ -1,24 +1,25 @@
 -- What holds of every answer of a call, by what holds of the states on the way. Assumes nothing.
 use Prim.Native.Nat.{ℕ, zero, suc, _+_, _-_, _<_}
-use mathlib.Core.Path.{_≡_, refl, sym, subst}
-use mathlib.Core.Bool.{Bool, true, false, cond}
+use mathlib.Core.Path.{_≡_, refl}
+use mathlib.Core.Bool.{Bool, true, false}
 use mathlib.Core.List.{List}
 use native.Mathlib.Omega.{arith}
 use borrow.Author.Tests.{leb-false}
 use lib.ListN.{length}
-use Rattle.numbers.proofs.Picks.{by-pick}
+use Rattle.numbers.proofs.Picks.{by-pick, by-test}
 use Rattle.numbers.proofs.Then.{by-number}
 use Rattle.numbers.specs.LittleEndian.{fieldAt}
-use Rattle.pages.proofs.Calls.{counted, call-live}
+use Rattle.pages.proofs.Calls.{counted}
 use Rattle.pages.specs.Call.{onPage, toChain, toPointer, onward, chain, opened, pages, soughtBy, seek, refusing, pointer, answered, outOfRange, call}
 use Rattle.pages.specs.ChainedPointers.{startAt, isNone, isMarked, unmarked, widthOf, fixupOf, nextOf, patch}
 use Rattle.pages.specs.declared.PageWalk.{PageWalk}
 use Rattle.pages.specs.declared.Patch.{Patch}
 use Rattle.pages.specs.declared.Sought.{Sought}
 use Rattle.pages.specs.declared.Sought.the-variants as sought
+use Rattle.refusal.specs.Numbers.{numberOf}
 use Rattle.refusal.specs.declared.Refusal.{Refusal}
-use Rattle.refusal.specs.declared.Refusal.the-variants.{BeyondStarts, PointerOutside}
-use Rattle.runs.specs.Runs.{Answer, item, end}
+use Rattle.refusal.specs.declared.Refusal.the-variants.{BeyondStarts, PointerOutside, StateOutOfRange}
+use Rattle.runs.specs.Runs.{Answer, item, end, refused}
 
 -- what holds of the state that a search comes to
 abbrev pub Comes : (PageWalk → Type 0) → Sought → Type 0
@@ -43,11 +44,10 @@ module _ (s : List ℕ) {I : PageWalk → Type 0} (k : Keeps I) where
 
   by-open : (w : PageWalk) (start : ℕ) → I w → Comes I (opened s w start)
   unfolding opened
-  by-open w start i = by (isMarked start) refl
-    where
-      by : (t : Bool) → isMarked start ≡ t → Comes I (cond t (chain s (toChain (unmarked start) w)) (sought.At (toPointer false (w .origin + start) w)))
-      by true e = by-chain (toChain (unmarked start) w) (k .to-list w (unmarked start) (omega arith) i)
-      by false e = k .to-pointer w false start (leb-false 0x8000 start e) i
+  by-open w start i =
+      by-test (Comes I) (isMarked start) _ _
+      (λ e. by-chain (toChain (unmarked start) w) (k .to-list w (unmarked start) (omega arith) i))
+      (λ e. k .to-pointer w false start (leb-false 0x8000 start e) i)
 
   by-pages : (n : ℕ) (w : PageWalk) → w .segment .«page_count» - w .page ≡ n → I w → Comes I (pages s n w)
   unfolding pages
@@ -76,5 +76,8 @@ module _ (s d : List ℕ) (given : PageWalk) {I : PageWalk → Type 0} (Q : Answ
   by-answer (sought.End w) i = ends w i
   by-answer sought.Beyond i = refuses BeyondStarts
 
-  pub by-call : outOfRange given (length s) ≡ false → given .ended ≡ false → I given → Q (call s d given)
-  by-call f g i = subst Q (sym (call-live s d given refl f g)) (by-answer (seek s given) (by-seek s k given i))
+  pub by-call : (outOfRange given (length s) ≡ true → Q (refused (numberOf StateOutOfRange) given)) → (outOfRange given (length s) ≡ false → I given) → Q (call s d given)
+  unfolding call
+  by-call out i =
+      by-test Q (outOfRange given (length s)) _ _ out
+      (λ e. by-pick Q (given .ended) _ _ (ends given (i e)) (by-answer (seek s given) (by-seek s k given (i e))))

@@ -1,7 +1,7 @@
 -- Calls from a start on say what the chains of the segment list, and nothing else. Assumes nothing.
 use Prim.Native.Nat.{ℕ, _-_, _^_, _≤_, _<_}
-use mathlib.Core.Path.{_≡_, refl, ap, sym, subst}
-use mathlib.Core.Bool.{Bool, true, false, cond}
+use mathlib.Core.Path.{_≡_, refl, subst}
+use mathlib.Core.Bool.{Bool, true, false}
 use mathlib.Core.List.{List}
 use mathlib.Core.Logic.{_⊎_, inl, inr}
 use native.Mathlib.Omega.{arith}
@@ -10,16 +10,16 @@ use lib.Dec.{eqb}
 use lib.ListN.{length}
 use Rattle.chains.proofs.Typed.{TypedSegment}
 use Rattle.chains.specs.declared.Segment.{Segment}
-use Rattle.numbers.proofs.Picks.{by-pick}
+use Rattle.numbers.proofs.Picks.{by-pick, by-test, both-picks}
 use Rattle.pages.proofs.Ahead.{ahead, says}
 use Rattle.pages.proofs.Answers.{by-call}
 use Rattle.pages.proofs.Moves.{origin-within}
 use Rattle.pages.specs.Call.{startsOut, atStart, begin, onward, farthest, outOfRange, call}
 use Rattle.pages.specs.ChainedPointers.{isFormat, nextOf}
-use Rattle.pages.specs.Listing.{pages, listing, heard}
+use Rattle.pages.specs.Listing.{Paged, pages, listing, heard}
 use Rattle.pages.specs.declared.PageWalk.{PageWalk}
 use Rattle.pages.specs.declared.Patch.{Patch}
-use Rattle.runs.proofs.Walks.{Stays, walks-ahead, walks-one}
+use Rattle.runs.proofs.Walks.{Stays, Starts, walks-ahead, walks-one}
 use Rattle.runs.specs.Runs.{Begin, begun, notBegun, Run, fails, mapped, Walks}
 
 module _ (s d : List ℕ) (short : length d < 2 ^ 64) where
@@ -59,7 +59,7 @@ module _ (s d : List ℕ) (short : length d < 2 ^ 64) where
       (λ e. tt)
       (λ v i. tt)
       (λ v n i. by-pick Goes (eqb (nextOf (v .segment .«pointer_format») n) 0) _ _ i i)
-      (in-range w h) (h .live) h
+      (λ o. tt) (λ e. h)
 
   -- calls from any state that goes on, made up or not, say what it has still to list; so every walk ends
   pub walks : (w : PageWalk) → Goes w → Walks (call s d) w (heard (ahead s d w))
@@ -68,33 +68,24 @@ module _ (s d : List ℕ) (short : length d < 2 ^ 64) where
   -- ---- a start
 
   module _ (g : Segment) (base : ℕ) (t : TypedSegment g) where
-    record Begins (w : PageWalk) : Type 0 where
-      going : Goes w
-      all : listing s d g base ≡ ahead s d w
+    abbrev Lists : Begin PageWalk → Run Paged → Type 0
+    Lists b l = Starts (call s d) (λ n r. (n ≡ 19) ⊎ (r ≡ fails n)) b (heard l)
 
-    abbrev Starts : Begin PageWalk → Type 0
-    Starts (begun w) = Begins w
-    Starts (notBegun n) = (n ≡ 19) ⊎ (heard (listing s d g base) ≡ fails n)
-
-    starts : Starts (begin s g base)
+    starts : Lists (begin s g base) (listing s d g base)
     unfolding begin listing mapped
-    starts = by (startsOut g (length s)) (isFormat (g .«pointer_format»)) refl refl
-      where
-        by : (a b : Bool) → startsOut g (length s) ≡ a → isFormat (g .«pointer_format») ≡ b → Starts (cond a (notBegun 19) (cond b (begun (atStart g base)) (notBegun 11)))
-        by true b e f = inl refl
-        by false true e f =
-            let z : g .«page_count» ≡ g .«page_count» - 0 = omega arith in
-            record {
-              going = record { typed = t; inside = e; format = f; near = omega arith; live = refl };
-              all = rw f (ap (λ (n : ℕ). pages s d g base n 0) z);
-            }
-        by false false e f = inr (rw f)
+    starts =
+        by-test (λ b. Lists b (listing s d g base)) (startsOut g (length s)) _ _ (λ e. inl refl)
+        (λ e.
+        both-picks Lists (isFormat (g .«pointer_format»)) _ _ _ _
+        (λ f.
+        let z : g .«page_count» - 0 ≡ g .«page_count» = omega arith in
+        subst (λ (n : ℕ). Lists (begun (atStart g base)) (pages s d g base n 0)) z
+        (walks (atStart g base) (record { typed = t; inside = e; format = f; near = omega arith; live = refl })))
+        (λ f. inr refl))
 
     -- calls from a start on say what the chains list
     pub joined : (w : PageWalk) → begin s g base ≡ begun w → Walks (call s d) w (heard (listing s d g base))
-    joined w e =
-        let b = subst Starts e starts in
-        subst (Walks (call s d) w) (ap heard (sym (b .all))) (walks w (b .going))
+    joined w e = subst (λ (b : Begin PageWalk). Lists b (listing s d g base)) e starts
 
     -- and nothing else
     pub joined-only : (w : PageWalk) {r : Run Patch} → begin s g base ≡ begun w → Walks (call s d) w r →
@@ -103,4 +94,4 @@ module _ (s d : List ℕ) (short : length d < 2 ^ 64) where
 
     -- a start is refused for its record, 19, or the listing is that refusal
     pub not-begun : {n : ℕ} → begin s g base ≡ notBegun n → (n ≡ 19) ⊎ (heard (listing s d g base) ≡ fails n)
-    not-begun e = subst Starts e starts
+    not-begun e = subst (λ (b : Begin PageWalk). Lists b (listing s d g base)) e starts

@@ -1,8 +1,8 @@
 -- States and items whose fields are such as their types have: a start gives such a state, and every call on one hands such a one back, and
 -- such an item. Refusals have a number of the table. Assumes nothing.
 use Prim.Native.Nat.{ℕ, _+_, _-_, _*_, _^_, _≤_, _<_}
-use mathlib.Core.Path.{_≡_, refl, subst}
-use mathlib.Core.Bool.{Bool, true, false}
+use mathlib.Core.Path.{_≡_, subst}
+use mathlib.Core.Bool.{Bool}
 use mathlib.Core.List.{List}
 use native.Mathlib.Nat.{min-le-right}
 use native.Mathlib.Omega.{arith}
@@ -14,9 +14,8 @@ use Rattle.chains.specs.FixupChains.{bits}
 use Rattle.chains.specs.declared.Segment.{Segment}
 use Rattle.numbers.proofs.Picks.{by-pick}
 use Rattle.pages.proofs.Answers.{Keeps, by-call}
-use Rattle.pages.proofs.Calls.{call-out, call-ended}
 use Rattle.pages.proofs.Moves.{in-range, origin-within}
-use Rattle.pages.specs.Call.{startsOut, begin, marked, moved, onPage, toChain, toPointer, onward, refusing, farthest, outOfRange, call}
+use Rattle.pages.specs.Call.{startsOut, begin, marked, moved, onPage, toChain, toPointer, onward, refusing, farthest, call}
 use Rattle.pages.specs.ChainedPointers.{isFormat, isNarrow, baseOf, minus, wideFixup, narrowFixup, fixupOf, nextOf, patch}
 use Rattle.pages.specs.declared.PageWalk.{PageWalk}
 use Rattle.pages.specs.declared.Patch.{Patch}
@@ -124,14 +123,9 @@ module _ (s d : List ℕ) (w : PageWalk) (t : Typed w) where
   -- what holds of its answer, by what holds where the states on the way are typed
   by-typed : (Q : Answer PageWalk Patch → Type 0) → Q (refused (numberOf StateOutOfRange) w) → ((e : Refusal) → Q (refusing w e)) → ((v : PageWalk) → Typed v → Q (end v)) →
       ((v : PageWalk) (n : ℕ) → Typed v → Q (item (patch (v .offset) (fixupOf (v .segment .«pointer_format») (v .base) n)) (onward (nextOf (v .segment .«pointer_format») n) v))) → Q (call s d w)
-  by-typed Q out refuses ends gives = by (outOfRange w (length s)) (w .ended) refl refl
-    where
-      by : (a b : Bool) → outOfRange w (length s) ≡ a → w .ended ≡ b → Q (call s d w)
-      by true b e f = subst Q (call-out s d w refl e) out
-      by false true e f = subst Q (call-ended s d w refl e f) (ends w t)
-      by false false e f =
-          by-call s d w {I = Near} Q keeps-near refuses (λ v i. ends v (i .typed)) (λ v n i. gives v n (i .typed)) e f
-          (record { typed = t; near = in-range s w e .near })
+  by-typed Q out refuses ends gives =
+      by-call s d w {I = Near} Q keeps-near refuses (λ v i. ends v (i .typed)) (λ v n i. gives v n (i .typed))
+      (λ e. out) (λ e. record { typed = t; near = in-range s w e .near })
 
   pub typed-call : Hands Typed IsNumber (call s d w)
   typed-call =

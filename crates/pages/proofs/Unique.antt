@@ -6,33 +6,21 @@ use Rattle.pages.specs.declared.PageStart.{PageStart}
 use Rattle.pages.specs.declared.PageStart.the-variants as start
 use Rattle.pages.specs.declared.PageStep.{PageStep}
 use Rattle.pages.specs.declared.PageStep.the-variants as step
-use Rattle.pages.specs.declared.PageWalk.{PageWalk}
-use Rattle.pages.specs.declared.Patch.{Patch}
 use Rattle.refusal.proofs.Numbered.{refusalOf, refusal-back}
 use Rattle.refusal.proofs.Unique.{one-each}
-use Rattle.refusal.specs.declared.Refusal.{Refusal}
-use Rattle.runs.specs.Runs.{Begin, begun, notBegun, Answer, item, end, refused}
+use Rattle.runs.proofs.Unique.{startOf, stepOf}
 
-abbrev startOf : Begin PageWalk → PageStart
-startOf (begun w) = start.Begun w
-startOf (notBegun n) = start.Refused (refusalOf n)
-
-abbrev stepOf : Answer PageWalk Patch → PageStep
-stepOf (item x w) = step.Item w x
-stepOf (end w) = step.End w
-stepOf (refused n w) = step.Refused w (refusalOf n)
-
-start-back : (r : PageStart) → startOf (startTold r) ≡ r
+start-back : (r : PageStart) → startOf (λ w. w) refusalOf start.Begun start.Refused (startTold r) ≡ r
 start-back (start.Begun w) = refl
 start-back (start.Refused e) = ap start.Refused (refusal-back e)
 
-step-back : (r : PageStep) → stepOf (told r) ≡ r
+step-back : (r : PageStep) → stepOf (λ w. w) refusalOf step.Item step.End step.Refused (told r) ≡ r
 step-back (step.Item w x) = refl
 step-back (step.End w) = refl
 step-back (step.Refused w e) = ap (step.Refused w) (refusal-back e)
 
 pub start-one : (r q : PageStart) → startTold r ≡ startTold q → r ≡ q
-start-one = one-each startTold startOf start-back
+start-one = one-each startTold (startOf (λ w. w) refusalOf start.Begun start.Refused) start-back
 
 pub told-one : (r q : PageStep) → told r ≡ told q → r ≡ q
-told-one = one-each told stepOf step-back
+told-one = one-each told (stepOf (λ w. w) refusalOf step.Item step.End step.Refused) step-back

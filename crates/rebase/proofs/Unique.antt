@@ -5,9 +5,8 @@ use Rattle.listing.specs.Call.{State}
 use Rattle.listing.specs.Machine.{Effect}
 use Rattle.refusal.proofs.Numbered.{refusalOf, refusal-back}
 use Rattle.refusal.proofs.Unique.{one-each}
-use Rattle.runs.specs.Runs.{Begin, begun, notBegun, Answer, item, end, refused}
+use Rattle.runs.proofs.Unique.{startOf, stepOf}
 use Rattle.rebase.specs.Told.{startTold, told, effectTold}
-use Rattle.rebase.specs.declared.Rebase.{Rebase}
 use Rattle.rebase.specs.declared.RebaseEffect.{RebaseEffect}
 use Rattle.rebase.specs.declared.RebaseStart.{RebaseStart}
 use Rattle.rebase.specs.declared.RebaseStart.the-variants as start
@@ -19,29 +18,20 @@ use Rattle.rebase.specs.declared.Registers.{Registers}
 abbrev walkOf : State Registers → RebaseWalk
 walkOf w = record { cursor = w .cursor; registers = w .registers }
 
-abbrev startOf : Begin (State Registers) → RebaseStart
-startOf (begun w) = start.Begun (walkOf w)
-startOf (notBegun n) = start.Refused (refusalOf n)
-
-abbrev stepOf : Answer (State Registers) Rebase → RebaseStep
-stepOf (item x w) = step.Item (walkOf w) x
-stepOf (end w) = step.End (walkOf w)
-stepOf (refused n w) = step.Refused (walkOf w) (refusalOf n)
-
-start-back : (r : RebaseStart) → startOf (startTold r) ≡ r
+start-back : (r : RebaseStart) → startOf walkOf refusalOf start.Begun start.Refused (startTold r) ≡ r
 start-back (start.Begun w) = refl
 start-back (start.Refused e) = ap start.Refused (refusal-back e)
 
-step-back : (r : RebaseStep) → stepOf (told r) ≡ r
+step-back : (r : RebaseStep) → stepOf walkOf refusalOf step.Item step.End step.Refused (told r) ≡ r
 step-back (step.Item w x) = refl
 step-back (step.End w) = refl
 step-back (step.Refused w e) = ap (step.Refused w) (refusal-back e)
 
 pub start-one : (r q : RebaseStart) → startTold r ≡ startTold q → r ≡ q
-start-one = one-each startTold startOf start-back
+start-one = one-each startTold (startOf walkOf refusalOf start.Begun start.Refused) start-back
 
 pub told-one : (r q : RebaseStep) → told r ≡ told q → r ≡ q
-told-one = one-each told stepOf step-back
+told-one = one-each told (stepOf walkOf refusalOf step.Item step.End step.Refused) step-back
 
 abbrev effectOf : Effect Registers → RebaseEffect
 effectOf e = record { registers = e .registers; motion = e .motion }

@@ -23,6 +23,11 @@ IfBegun P (begun w) = P w
 IfBegun P (notBegun number) = Unit {0}
 
 module _ {W Item : Type 0} where
+  -- of a start and what is listed: calls from its state say that; where it is refused, what holds of its number and that
+  abbrev pub Starts : (W → Answer W Item) → (ℕ → Run Item → Type 0) → Begin W → Run Item → Type 0
+  Starts call Refuses (begun w) r = Walks call w r
+  Starts call Refuses (notBegun number) r = Refuses number r
+
   -- what an answer says, with what is ahead of the state that it hands back
   abbrev pub shown : (ahead : W → Run Item) → Answer W Item → Run Item
   shown ahead (item x v) = gives x (ahead v)

@@ -1,6 +1,6 @@
 -- `packed_bind::tell` meets its contract. Assumes nothing.
 use Rattle.packed_bind.specs.Packed.{states, items}
-use Rattle.packing.proofs.Boundary.{over, three, tells}
+use Rattle.packing.proofs.Boundary.{reports, tells}
 use Rattle.bind.specs.Told.{told}
 use borrow.Author.Needs.{needs}
 use Rattle.packed_bind.proofs.tell.Statement.{statement}
@@ -14,29 +14,26 @@ tell-spec =
     (λ c κs. search needs)
     (λ c. search needs)
     (λ c κs. search needs)
+    (λ c. search needs)
+    (λ c κs. search needs)
+    (λ c. search needs)
+    (λ c κs. search needs)
+    (λ c. search needs)
+    (λ c. search needs)
     (λ c κs. search needs)
     (λ c. search needs)
     (λ c κs. search needs)
     (λ c. search needs)
     (λ c κs. search needs)
     (λ c. search needs)
-    (λ c κs. search needs)
     (λ c. search needs)
     (λ c κs. search needs)
     (λ c. search needs)
-    (λ c κs. search needs)
     (λ c. search needs)
-    (λ c κs. search needs)
-    (λ c. search needs)
-    (λ c κs. search needs)
-    (λ c κs. search needs)
+    (λ c. search (tells states items told, reports, needs))
     (λ c. search needs)
     (λ c. search needs)
-    (λ c. search needs)
-    (λ c. search (tells states items told, three, over, needs))
-    (λ c. search needs)
-    (λ c. search needs)
-    (λ c. search (tells states items told, three, over, needs))
+    (λ c. search (tells states items told, reports, needs))
     (λ c. search needs)
     (λ c. search needs)
-    (λ c. search (tells states items told, three, over, needs)))
+    (λ c. search (tells states items told, reports, needs)))

@@ -1,7 +1,7 @@
 -- `packed_pages::tell` meets its contract. Assumes nothing.
-use Rattle.packed_pages.proofs.Fixups.{over-item}
+use Rattle.packed_pages.proofs.Fixups.{long}
 use Rattle.packed_pages.specs.Packed.{states, items}
-use Rattle.packing.proofs.Boundary.{over, three, tells}
+use Rattle.packing.proofs.Boundary.{reports, tells}
 use Rattle.pages.specs.Told.{told}
 use borrow.Author.Needs.{needs}
 use Rattle.packed_pages.proofs.tell.Statement.{statement}
@@ -15,29 +15,26 @@ tell-spec =
     (λ c κs. search needs)
     (λ c. search needs)
     (λ c κs. search needs)
+    (λ c. search needs)
+    (λ c κs. search needs)
+    (λ c. search needs)
+    (λ c κs. search needs)
+    (λ c. search needs)
+    (λ c. search needs)
     (λ c κs. search needs)
     (λ c. search needs)
     (λ c κs. search needs)
     (λ c. search needs)
     (λ c κs. search needs)
     (λ c. search needs)
-    (λ c κs. search needs)
     (λ c. search needs)
     (λ c κs. search needs)
     (λ c. search needs)
-    (λ c κs. search needs)
     (λ c. search needs)
-    (λ c κs. search needs)
-    (λ c. search needs)
-    (λ c κs. search needs)
-    (λ c κs. search needs)
+    (λ c. search (tells states items told, reports, long, needs))
     (λ c. search needs)
     (λ c. search needs)
-    (λ c. search needs)
-    (λ c. search (tells states items told, three, over, over-item, needs))
-    (λ c. search needs)
-    (λ c. search needs)
-    (λ c. search (tells states items told, three, over, needs))
+    (λ c. search (tells states items told, reports, needs))
     (λ c. search needs)
     (λ c. search needs)
-    (λ c. search (tells states items told, three, over, needs)))
+    (λ c. search (tells states items told, reports, needs)))

@@ -1,5 +1,5 @@
 -- `packed_rebase::tell` meets its contract. Assumes nothing.
-use Rattle.packing.proofs.Boundary.{over, three, tells}
+use Rattle.packing.proofs.Boundary.{reports, tells}
 use Rattle.packed_rebase.specs.Packed.{states, items}
 use Rattle.rebase.specs.Told.{told}
 use borrow.Author.Needs.{needs}
@@ -13,7 +13,6 @@ tell-spec =
     (λ c. search needs)
     (λ c κs. search needs)
     (λ c. search needs)
-    (λ c κs. search needs)
     (λ c. search needs)
     (λ c. search needs)
     (λ c. search needs)
@@ -21,7 +20,6 @@ tell-spec =
     (λ c. search needs)
     (λ c κs. search needs)
     (λ c. search needs)
-    (λ c κs. search needs)
     (λ c. search needs)
     (λ c κs. search needs)
     (λ c. search needs)
@@ -29,15 +27,14 @@ tell-spec =
     (λ c. search needs)
     (λ c κs. search needs)
     (λ c. search needs)
+    (λ c. search needs)
     (λ c κs. search needs)
-    (λ c κs. search needs)
     (λ c. search needs)
     (λ c. search needs)
-    (λ c. search needs)
-    (λ c. search (tells states items told, three, over, needs))
-    (λ c. search needs)
-    (λ c. search needs)
-    (λ c. search (tells states items told, three, over, needs))
+    (λ c. search (tells states items told, reports, needs))
     (λ c. search needs)
     (λ c. search needs)
-    (λ c. search (tells states items told, three, over, needs)))
+    (λ c. search (tells states items told, reports, needs))
+    (λ c. search needs)
+    (λ c. search needs)
+    (λ c. search (tells states items told, reports, needs)))

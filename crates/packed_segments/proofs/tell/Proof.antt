@@ -1,7 +1,7 @@
 -- `packed_segments::tell` meets its contract. Assumes nothing.
 use Rattle.chains.specs.Told.{told}
 use Rattle.packed_segments.specs.Packed.{states, items}
-use Rattle.packing.proofs.Boundary.{over, three, tells}
+use Rattle.packing.proofs.Boundary.{reports, tells}
 use borrow.Author.Needs.{needs}
 use Rattle.packed_segments.proofs.tell.Statement.{statement}
 use Rattle.packed_segments.proofs.tell.Tie as tie
@@ -14,29 +14,26 @@ tell-spec =
     (λ c κs. search needs)
     (λ c. search needs)
     (λ c κs. search needs)
+    (λ c. search needs)
+    (λ c κs. search needs)
+    (λ c. search needs)
+    (λ c κs. search needs)
+    (λ c. search needs)
+    (λ c. search needs)
     (λ c κs. search needs)
     (λ c. search needs)
     (λ c κs. search needs)
     (λ c. search needs)
     (λ c κs. search needs)
     (λ c. search needs)
-    (λ c κs. search needs)
     (λ c. search needs)
     (λ c κs. search needs)
     (λ c. search needs)
-    (λ c κs. search needs)
     (λ c. search needs)
-    (λ c κs. search needs)
-    (λ c. search needs)
-    (λ c κs. search needs)
-    (λ c κs. search needs)
+    (λ c. search (tells states items told, reports, needs))
     (λ c. search needs)
     (λ c. search needs)
-    (λ c. search needs)
-    (λ c. search (tells states items told, three, over, needs))
-    (λ c. search needs)
-    (λ c. search needs)
-    (λ c. search (tells states items told, three, over, needs))
+    (λ c. search (tells states items told, reports, needs))
     (λ c. search needs)
     (λ c. search needs)
-    (λ c. search (tells states items told, three, over, needs)))
+    (λ c. search (tells states items told, reports, needs)))
