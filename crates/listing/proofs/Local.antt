@@ -12,7 +12,7 @@ use Rattle.listing.specs.Stream.{Stream, out, bad, one, before, streamAt
 use Rattle.numbers.proofs.Local.{same-less}
 use Rattle.operations.proofs.Local.{operation-local}
 use Rattle.operations.proofs.Rows.{no-byte}
-use Rattle.operations.specs.Table.{Parsed, operation, faulty, noBytes}
+use Rattle.operations.specs.Table.{operation}
 
 module _ (M : Machine) where
   -- ---- operations, each with the place behind it, lead from a place to another

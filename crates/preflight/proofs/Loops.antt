@@ -1,6 +1,6 @@
 -- A preflight's code by the tests it makes, for `search`: its start, one operation, and the loop over operations. Assumes nothing.
 use Prim.Native.Nat.{ℕ, _+_, _-_, _^_, _≤_, _<_}
-use mathlib.Core.Path.{_≡_, refl, ap, sym, _∙_, subst}
+use mathlib.Core.Path.{_≡_, refl, ap, sym, _∙_}
 use mathlib.Core.Bool.{Bool, true, false, not, cond}
 use mathlib.Core.List.{List}
 use native.Mathlib.Omega.{arith}
@@ -21,7 +21,7 @@ use Rattle.refusal.specs.declared.Refusal.the-variants.{PointerSize, UnfitSizes
 use Rattle.runs.specs.Runs.{Begin, begun, notBegun}
 use Rattle.preflight.specs.Flown.{flownOf}
 use Rattle.preflight.specs.Leg.{Flight, flightAt, Leg, on, said, spotOf, legBy, legOver, legOf, legAt}
-use Rattle.preflight.specs.Verdict.{Verdict, fault, verdict, fitSizes, withSizes, preflight}
+use Rattle.preflight.specs.Verdict.{Verdict, fault, fitSizes, withSizes, preflight}
 use Rattle.preflight.specs.declared.flight.Flown.{Flown}
 use Rattle.preflight.proofs.Legs.{flight, after, leg-verdict, Beyond, goes-beyond}
 use Rattle.preflight.proofs.Verdicts.{Placed}

@@ -9,9 +9,8 @@ use lib.Dec.{ltb, eqb}
 use lib.ListN.{length}
 use Rattle.numbers.proofs.Picks.{neither}
 use Rattle.trie.proofs.Course.{ended-stays, goes-on, out-stays}
-use Rattle.refusal.specs.Numbers.{numberOf}
 use Rattle.refusal.specs.declared.Refusal.the-variants.{FaultyNode, StateOutOfRange}
-use Rattle.trie.specs.Call.{marked, rooted, refused, end, Reply, seen, replied, visited, onward, visitRoot, goOn, call}
+use Rattle.trie.specs.Call.{marked, rooted, Reply, seen, visited, onward, visitRoot, goOn, call}
 use Rattle.nodes.specs.ExportsTrie.{nodeAt}
 use Rattle.trie.specs.Frames.{topDown, oneAbove, outOfRange}
 use Rattle.trie.specs.Told.{told}

@@ -1,7 +1,7 @@
 -- What a call reaches, whatever it answers and hands back: as many visits as it counts lead there from the walk and the buffer that it was
 -- given, and the arrays and the buffer are as the last of them left them. Assumes nothing.
 use Prim.Native.Nat.{ℕ, suc, _+_}
-use mathlib.Core.Path.{_≡_, refl, ap, subst}
+use mathlib.Core.Path.{_≡_, refl, ap}
 use mathlib.Core.List.{List}
 use native.Mathlib.Omega.{arith}
 use Rattle.nodes.specs.declared.node.Terminal.{Terminal}
