@@ -18,18 +18,18 @@ use operations::bind_operation::BindOperation;
 use operations::bind_operation::BindParse;
 use refusal::Refusal;
 
-// A place that the loader binds: its offset in a segment, the place and length of the symbol's name in
-// the stream, the addend, the library that the symbol is taken from, the segment, the type of the
-// place, and the symbol's flags.
+// A place that the loader binds: its segment, its offset there, its type, the library that the symbol
+// is taken from, the place and length of the symbol's name in the stream, its flags, and the addend.
+// A byte stands first: in a step's answer it lies where a refusal does.
 pub struct Bind {
+    pub segment: u8,
     pub offset: u64,
+    pub kind: u8,
+    pub library: i32,
     pub place: usize,
     pub length: usize,
-    pub addend: i64,
-    pub library: i32,
-    pub segment: u8,
-    pub kind: u8,
     pub flags: u8,
+    pub addend: i64,
 }
 
 // What operations have set, but for the offset; whether the walk is a lazy one; and whether segment,
@@ -223,14 +223,14 @@ impl Registers {
         ensures { λ r. ⌜ r ≡ itemOf self offset ⌝ }
     {
         Bind {
+            segment: self.segment,
             offset,
+            kind: self.kind,
+            library: self.library,
             place: self.place,
             length: self.length,
-            addend: self.addend,
-            library: self.library,
-            segment: self.segment,
-            kind: self.kind,
             flags: self.flags,
+            addend: self.addend,
         }
     }
 }

@@ -1,10 +1,11 @@
 -- A preflight at the boundary, by what its parts answered: for `search`. Assumes nothing.
 use Prim.Native.Nat.{ℕ, _-_, _/_, _%_, _≤_, _<_}
 use mathlib.Core.Path.{_≡_, sym, ap, _∙_}
-use mathlib.Core.Bool.{cond}
+use mathlib.Core.Bool.{Bool, cond}
 use mathlib.Core.List.{List}
+use native.Mathlib.Decide.{decLt}
 use native.Mathlib.Omega.{arith}
-use borrow.Author.Tests.{lt-leb, eq-eqb, ne-eqb}
+use borrow.Author.Tests.{lt-ltb, le-ltb, lt-leb, eq-eqb, ne-eqb}
 use lib.ListN.{length, take}
 use Rattle.bind.specs.Binds.{plainly, weakly, lazily, binds}
 use Rattle.cursor.specs.Cursor.{isPointerSize}
@@ -13,7 +14,7 @@ use Rattle.listing.specs.Machine.{Machine}
 use Rattle.packing.specs.Boundary.{unfit}
 use Rattle.packing.proofs.Words.{length-words, take-words}
 use Rattle.packing.specs.Words.{wordsFrom}
-use Rattle.packed_preflight.specs.Packed.{sizesOf, verdictTold, flown, flightOf}
+use Rattle.packed_preflight.specs.Packed.{sizesOf, fewer, verdictTold, flown, flightOf}
 use Rattle.packed_preflight.specs.declared.Flight.{Flight}
 use Rattle.packed_preflight.specs.declared.Flight.the-variants.{Rebases, PlainBinds, WeakBinds, LazyBinds}
 use Rattle.preflight.specs.Told.{told}
@@ -46,20 +47,34 @@ module _ (f : Flight) (size : ℕ) (sizes s : List ℕ) where
 
   -- so the verdict is the one on those that are read
   module _ {words : List ℕ} (read : words ≡ wordsFrom sizes 0 17) {v : Verdict} where
-    pub flies-many : v ≡ flightOf f size words s → 17 ≤ length sizes / 8 → v ≡ flightOf f size (sizesOf sizes) s
+    flies-many : v ≡ flightOf f size (take 17 words) s → 17 ≤ length sizes / 8 → v ≡ flightOf f size (sizesOf sizes) s
     flies-many e h =
         e
-        ∙ ap (λ (zs : List ℕ). flightOf f size zs s) read
+        ∙ ap (λ (zs : List ℕ). flightOf f size zs s) (ap (take 17) read ∙ take-words sizes 0 17 17 (omega arith))
         ∙ by-flight (λ g. g size (wordsFrom sizes 0 17) s ≡ g size (sizesOf sizes) s)
         (λ M start. many M start 17 (omega arith) ∙ sym (many M start (length sizes / 8) (omega arith))) f
 
-    pub flies-few : v ≡ flightOf f size (take (length sizes / 8 - 0) words) s → length sizes / 8 < 17 →
+    flies-few : v ≡ flightOf f size (take (length sizes / 8) words) s → length sizes / 8 < 17 →
         v ≡ flightOf f size (sizesOf sizes) s
     flies-few e h =
-        let z : length sizes / 8 - 0 ≡ length sizes / 8 = omega arith in
         e
         ∙ ap (λ (zs : List ℕ). flightOf f size zs s)
-        ((λ j. take (z j) (read j)) ∙ take-words sizes 0 (length sizes / 8) 17 (omega arith))
+        (ap (take (length sizes / 8)) read ∙ take-words sizes 0 (length sizes / 8) 17 (omega arith))
+
+    pub flies : {count : ℕ} → v ≡ flightOf f size (take (count - 0) words) s → count ≡ fewer (length sizes / 8) →
+        v ≡ flightOf f size (sizesOf sizes) s
+    flies {count} e c =
+        let z : count - 0 ≡ count = omega arith in
+        let q : v ≡ flightOf f size (take (fewer (length sizes / 8)) words) s =
+        e ∙ ap (λ (n : ℕ). flightOf f size (take n words) s) (z ∙ c) in
+        elim (decLt (length sizes / 8) 17) [
+          | yes h ↦
+              flies-few (q ∙ ap (λ (b : Bool). flightOf f size (take (cond b (length sizes / 8) 17) words) s)
+              (lt-ltb (length sizes / 8) 17 h)) h
+          | no h ↦
+              flies-many (q ∙ ap (λ (b : Bool). flightOf f size (take (cond b (length sizes / 8) 17) words) s)
+              (le-ltb (length sizes / 8) 17 (omega arith))) (omega arith)
+        ]
 
 -- one that is known
 pub flies-as : {f g : Flight} (size : ℕ) (sizes s : List ℕ) {v : Verdict} →

@@ -2,7 +2,7 @@
 use Prim.Native.Nat.{ℕ, _/_, _%_}
 use mathlib.Core.Bool.{cond, _&&_}
 use mathlib.Core.List.{List, [], _∷_}
-use lib.Dec.{eqb}
+use lib.Dec.{eqb, ltb}
 use lib.ListN.{length}
 use Rattle.bind.specs.Binds.{plainly, weakly, lazily, binds}
 use Rattle.packed_preflight.specs.declared.Flight.{Flight}
@@ -16,6 +16,10 @@ use Rattle.rebase.specs.Rebases.{unset, rebases}
 
 abbrev pub sizesOf : List ℕ → List ℕ
 sizesOf s = wordsFrom s 0 (length s / 8)
+
+-- a preflight refuses 17 sizes as it refuses more
+abbrev pub fewer : ℕ → ℕ
+fewer count = cond (ltb count 17) count 17
 
 -- ---- the verdict
 

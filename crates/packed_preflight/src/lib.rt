@@ -1,8 +1,9 @@
 // Preflights at the boundary to C: the sizes in bytes, and the verdict written as words.
 ghost use mathlib.Core.Path.{_≡_};
+ghost use Prim.Native.Nat.{_≤_};
 ghost use lib.ListN.{length};
 ghost use Rattle.bind.specs.Binds.{plainly, weakly, lazily, binds};
-ghost use Rattle.packed_preflight.specs.Packed.{sizesOf, verdictTold, flown, flightOf};
+ghost use Rattle.packed_preflight.specs.Packed.{sizesOf, fewer, verdictTold, flown, flightOf};
 ghost use Rattle.packing.specs.Words.{wordsFrom};
 ghost use Rattle.preflight.specs.Told.{told};
 ghost use Rattle.preflight.specs.Verdict.{preflight};
@@ -74,11 +75,19 @@ fn judge(flight: Flight, s: &[u8], size: u64, sizes: &[u8]) -> Verdict
         return Verdict::Fault(Refusal::PointerSize, 0, 0);
     }
     let words = read(sizes);
-    let count = sizes.len() / 8;
+    let count = fewer(sizes.len() / 8);
+    fly(flight, s, size as u8, &words[0..count])
+}
+
+// So many sizes, and no more than seventeen.
+fn fewer(count: usize) -> usize
+    ensures { λ r. ⌜ r ≡ fewer count ⌝ }
+    ensures { λ r. ⌜ r ≤ 17 ⌝ }
+{
     if count < 17 {
-        return fly(flight, s, size as u8, &words[0..count]);
+        return count;
     }
-    fly(flight, s, size as u8, &words)
+    17
 }
 
 // The first seventeen sizes; 0 where there are fewer.

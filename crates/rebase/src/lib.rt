@@ -16,10 +16,11 @@ use operations::rebase_operation::RebaseOperation;
 use operations::rebase_operation::RebaseParse;
 use refusal::Refusal;
 
-// A place that the loader rebases: its offset in a segment, that segment, and its type.
+// A place that the loader rebases: its segment, its offset there, and its type. A byte stands first: in
+// a step's answer it lies where a refusal does.
 pub struct Rebase {
-    pub offset: u64,
     pub segment: u8,
+    pub offset: u64,
     pub kind: u8,
 }
 
@@ -114,8 +115,8 @@ impl Registers {
         ensures { λ r. ⌜ r ≡ itemOf self offset ⌝ }
     {
         Rebase {
-            offset,
             segment: self.segment,
+            offset,
             kind: self.kind,
         }
     }

@@ -1,5 +1,5 @@
 -- `packed_preflight::judge` meets its contract. Assumes nothing.
-use Rattle.packed_preflight.proofs.Flights.{no-flight, flies-few, flies-many}
+use Rattle.packed_preflight.proofs.Flights.{no-flight, flies}
 use borrow.Author.Needs.{needs}
 use Rattle.packed_preflight.proofs.judge.Statement.{statement}
 use Rattle.packed_preflight.proofs.judge.Tie as tie
@@ -14,9 +14,6 @@ judge-spec =
     (λ c. search needs)
     (λ c. search needs)
     (λ c. search needs)
-    (λ c κs. search needs)
-    (λ c. search (flies-few, needs))
-    (λ c. search needs)
     (λ c. search needs)
     (λ c κs. search needs)
-    (λ c. search (flies-many, needs)))
+    (λ c. search (flies, needs)))
