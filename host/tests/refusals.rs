@@ -3,40 +3,47 @@
 mod common;
 
 use brinetrellis::preflight::{self, Verdict};
-use brinetrellis::{Binds, Exports, Fixups, Imports, NoRefusal, Rebases, Refusal, Segments};
+use brinetrellis::{Binds, Error, Exports, Fixups, Imports, NoRefusal, Rebases, Refusal, Segments};
 use common::{chain, one_segment, u32s, with_imports, S1, S4};
-use std::collections::BTreeMap;
+use std::collections::{BTreeMap, BTreeSet};
+
+/// The first refusal of a walk.
+fn refused<T>(mut walk: impl Iterator<Item = Result<T, Error>>) -> Option<Refusal> {
+    walk.find_map(Result::err).and_then(Error::refusal)
+}
+
+/// What refuses a start.
+fn unstarted<T>(start: Result<T, Error>) -> Option<Refusal> {
+    start.err().and_then(Error::refusal)
+}
 
 /// What refuses a rebase stream of pointer size 8.
 fn rebase(stream: &[u8]) -> Option<Refusal> {
-    let mut walk = Rebases::new(stream, 8).expect("a start");
-    walk.find_map(Result::err)
+    refused(Rebases::new(stream, 8).expect("a start"))
 }
 
 /// What refuses a plain bind stream of pointer size 8.
 fn bind(stream: &[u8]) -> Option<Refusal> {
-    let mut walk = Binds::plain(stream, 8).expect("a start");
-    walk.find_map(Result::err)
+    refused(Binds::plain(stream, 8).expect("a start"))
 }
 
 /// What refuses the fixups of the one segment, which has eight bytes.
 fn pages(fixups: &[u8]) -> Option<Refusal> {
     let mut segments = Segments::new(fixups).expect("a start");
     let segment = segments.next()?.expect("a segment");
-    let mut walk = Fixups::new(fixups, &segment, 0, &[0; 8]).expect("a start");
-    walk.find_map(Result::err)
+    refused(Fixups::new(fixups, &segment, 0, &[0; 8]).expect("a start"))
 }
 
 /// What refuses a trie, with room for so many bytes of a name.
 fn trie(bytes: &[u8], room: usize) -> Option<Refusal> {
-    Exports::with_room(bytes, room).find_map(Result::err)
+    refused(Exports::with_room(bytes, room).expect("a start"))
 }
 
 /// What refuses a rebase stream of pointer size 8 before its flight.
 fn flight(stream: &[u8], sizes: &[u64]) -> Option<Refusal> {
     match preflight::rebases(stream, 8, sizes) {
-        Verdict::Passes { .. } => None,
         Verdict::Fault { refusal, .. } => Some(refusal),
+        Verdict::Passes { .. } | Verdict::Unknown { .. } => None,
     }
 }
 
@@ -44,14 +51,14 @@ fn flight(stream: &[u8], sizes: &[u64]) -> Option<Refusal> {
 fn shortened() -> Option<Refusal> {
     let mut walk = Rebases::new(S1, 8).expect("a start");
     walk.next();
-    Rebases::from_state(&S1[..3], walk.into_state()).find_map(Result::err)
+    refused(Rebases::from_state(&S1[..3], walk.into_state()))
 }
 
 #[test]
 fn each_refusal_has_a_sample() {
     let unversioned = u32s(&[1, 0, 0, 0, 0, 0, 0]);
     let samples = [
-        Rebases::new(S1, 7).err(),
+        unstarted(Rebases::new(S1, 7)),
         rebase(&[0x90]),
         rebase(&[0x20, 0x80]),
         bind(&[0x20, 0x80, 0x80, 0x80, 0x80, 0x08]), // 2^31
@@ -59,14 +66,12 @@ fn each_refusal_has_a_sample() {
         rebase(&[0x20, 0x00, 0x51]),
         bind(&[0x70, 0x00, 0x51, 0x90]),
         bind(&[0x70, 0x00, 0x51, 0x11, 0x90]),
-        Segments::new(&[]).err(),
-        Segments::new(&unversioned).err(),
-        Imports::new(&u32s(&[0, 0, 0, 0, 0, 1, 1])).err(),
+        unstarted(Segments::new(&[])),
+        unstarted(Segments::new(&unversioned)),
+        unstarted(Imports::new(&u32s(&[0, 0, 0, 0, 0, 1, 1]))),
         pages(&one_segment(2, 1, &[])),
         pages(&one_segment(2, 1, &[1])), // the bytes 1 to 9 of eight
-        Imports::new(&with_imports(1, 1, &u32s(&[0]), b"a"))
-            .expect("a start")
-            .find_map(Result::err),
+        refused(Imports::new(&with_imports(1, 1, &u32s(&[0]), b"a")).expect("a start")),
         trie(&[], 9),
         trie(b"\x00\x01a\x00\x00", 9), // an edge to the root
         trie(&chain(257), 9),
@@ -75,19 +80,24 @@ fn each_refusal_has_a_sample() {
         flight(S1, &[0, 0, 39]),
         flight(S1, &[0; 17]),
     ];
-    assert_eq!(samples.len(), 21);
     for (number, sample) in (1..).zip(samples) {
         assert_eq!(sample.map(Refusal::number), Some(number));
     }
+    let sampled: BTreeSet<Refusal> = samples.into_iter().flatten().collect();
+    let all: BTreeSet<Refusal> = Refusal::ALL.iter().copied().collect();
+    assert_eq!(sampled, all, "each has a sample");
 }
 
 #[test]
 fn a_refusal_has_one_number() {
-    for (number, refusal) in (1..).zip(Refusal::ALL) {
-        assert_eq!(refusal.number(), number);
-        assert_eq!(Refusal::try_from(number), Ok(refusal));
+    let numbers: BTreeSet<u64> = Refusal::ALL.iter().map(|r| r.number()).collect();
+    assert_eq!(numbers.len(), Refusal::ALL.len());
+    for refusal in Refusal::ALL {
+        assert_eq!(Refusal::try_from(refusal.number()), Ok(*refusal));
+        // It can be told from the other answers.
+        assert!((1..=255).contains(&refusal.number()));
     }
-    for number in [0, 22, 255, 256, 257, 256 + 19, u64::MAX] {
+    for number in [0, 99, 255, 256, 257, 256 + 19, u64::MAX] {
         assert_eq!(Refusal::try_from(number), Err(NoRefusal(number)));
     }
 }
@@ -108,7 +118,39 @@ fn table() -> BTreeMap<u64, (String, String)> {
 }
 
 #[test]
-fn names_and_words_are_the_documented_ones() {
-    let told = Refusal::ALL.map(|r| (r.number(), (format!("{r:?}"), r.to_string())));
-    assert_eq!(table(), BTreeMap::from(told));
+fn names_and_sentences_are_the_documented_ones() {
+    let told = Refusal::ALL.iter().map(|refusal| {
+        let (name, sentence) = (format!("{refusal:?}"), refusal.given_when().to_string());
+        (refusal.number(), (name, sentence))
+    });
+    assert_eq!(table(), told.collect());
+}
+
+#[test]
+fn what_is_displayed_is_plain_words() {
+    assert_eq!(
+        Refusal::NoLibrary.to_string(),
+        "bind before any library was chosen"
+    );
+    let error = Error::from(Refusal::NoLibrary);
+    assert_eq!(error.to_string(), Refusal::NoLibrary.to_string());
+    let words: BTreeSet<&str> = Refusal::ALL.iter().map(|r| r.words()).collect();
+    assert_eq!(words.len(), Refusal::ALL.len(), "each has its own");
+}
+
+#[test]
+fn other_errors_are_told_from_refusals() {
+    let what = "answer";
+    let unknown = Error::Unknown { what, number: 99 };
+    let text = "answer that this crate does not know: 99";
+    assert_eq!(
+        (unknown.refusal(), unknown.to_string().as_str()),
+        (None, text)
+    );
+    let budget = Error::Budget { nodes: 7 };
+    let text = "no export found within 7 trie nodes";
+    assert_eq!(
+        (budget.refusal(), budget.to_string().as_str()),
+        (None, text)
+    );
 }
