@@ -16,8 +16,8 @@ fn main() {
     println!("cargo:rerun-if-changed={}", archive.display());
     if !archive.is_file() {
         eprintln!(
-            "{} is missing: run `rt staticlib brinetrellis` in the repository, or set {VARIABLE} to \
-             the folder that has the archive.",
+            "{} is missing: run `rt staticlib brinetrellis` in the repository, or set {VARIABLE} \
+             to the folder that has the archive.",
             archive.display()
         );
         exit(1);

@@ -18,8 +18,8 @@ pub enum Error {
         /// The number.
         number: u64,
     },
-    /// An item of [`Exports`](crate::Exports) was not found within its budget of nodes. The bytes are
-    /// not refused: there is more to be read.
+    /// [`Exports`](crate::Exports) came to no export within its budget of nodes. The bytes are not
+    /// refused: there is more to be read.
     Budget {
         /// The budget, all of which was visited.
         nodes: u64,

@@ -68,12 +68,12 @@ pub enum Found<'a> {
 
 /// The exports of a trie, in the order of its edges.
 ///
-/// An error is the last item. So is that of the budget: `next` visits at most a million nodes for one
-/// item, or as many as `with_budget` says, and if it has come to no export then, it gives
-/// [`Error::Budget`]. Since nodes may be shared, a few hundred bytes can lead to more nodes than
-/// anyone can visit. After that error `next` gives `None`, so that a loop that passes over errors
-/// ends, too. The walk itself has not ended: `next_within`, which visits no more nodes than it is
-/// told, goes on behind the last node, and so does a walk that is made from its state.
+/// An error is the last item. Since nodes may be shared, a few hundred bytes can lead to more
+/// nodes than anyone can visit; so `next` has a budget for one item: a million nodes, or what
+/// `with_budget` says. If it has come to no export then, it gives [`Error::Budget`], and from there
+/// on `None`, so that a loop that passes over errors ends, too. The walk itself has not ended:
+/// `next_within`, which visits no more nodes than it is told, goes on behind the last node, and so
+/// does a walk that is made from its state.
 ///
 /// The budget is that of one item. An export of a shared node is listed once for each way to it, so
 /// that a list can be longer than the trie; `take` bounds it.
@@ -83,7 +83,10 @@ pub enum Found<'a> {
 ///
 /// // Two edges, `ab` and `c`, lead to one node at 9, which exports the address 16.
 /// let trie = b"\x00\x02ab\x00\x09c\x00\x09\x02\x01\x10\x00";
-/// let names: Vec<Vec<u8>> = Exports::new(trie)?.map(|e| Ok(e?.name)).collect::<Result<_, Error>>()?;
+/// let mut names = Vec::new();
+/// for export in Exports::new(trie)? {
+///     names.push(export?.name);
+/// }
 /// assert_eq!(names, [b"ab".to_vec(), b"c".to_vec()]);
 ///
 /// // The root alone comes to no export.
@@ -113,7 +116,8 @@ impl<'a> Exports<'a> {
     ///
     /// # Errors
     ///
-    /// [`Error::Unknown`] where the archive is not the one that this crate knows. Nothing is refused.
+    /// [`Error::Unknown`] where the archive is not the one that this crate knows. No trie is
+    /// refused here.
     pub fn new(trie: &'a [u8]) -> Result<Self, Error> {
         Exports::with_room(trie, Exports::ROOM)
     }
@@ -122,7 +126,8 @@ impl<'a> Exports<'a> {
     ///
     /// # Errors
     ///
-    /// [`Error::Unknown`] where the archive is not the one that this crate knows. Nothing is refused.
+    /// [`Error::Unknown`] where the archive is not the one that this crate knows. No trie is
+    /// refused here.
     pub fn with_room(trie: &'a [u8], room: usize) -> Result<Self, Error> {
         let walk = Walk::start(raw::trie_start)?;
         Ok(Exports::of(trie, walk, vec![0; room]))

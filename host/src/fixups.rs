@@ -47,8 +47,8 @@ impl<'a> Fixups<'a> {
     ///
     /// # Errors
     ///
-    /// A refusal where the format of the segment's pointers is not known, or its list of starts does
-    /// not lie in the fixups, as it does of a segment of these fixups.
+    /// A refusal where the format of the segment's pointers is not known, or where its list of
+    /// starts does not lie in the fixups: then it is a segment of others.
     pub fn new(
         fixups: &'a [u8],
         segment: &Segment,

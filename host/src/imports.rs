@@ -18,7 +18,9 @@ pub struct Import<'a> {
     pub name: &'a [u8],
 }
 
-/// The imports of chained fixups; the ordinal of a bind among the fixups counts them from 0. An error is the last item.
+/// The imports of chained fixups; the ordinal of a bind among the fixups counts them from 0.
+///
+/// An error is the last item.
 #[must_use = "a walk reads nothing until it is iterated"]
 #[derive(Clone, Debug)]
 pub struct Imports<'a> {

@@ -22,12 +22,12 @@
 //! # }
 //! ```
 //!
-//! A walk is an iterator of `Result`s. Its state is bytes, which can be taken out of it and put back
-//! into another, so that it can be paused. [`raw`] has the entry points as they are.
+//! A walk is an iterator of `Result`s. Its state is bytes, which can be taken out of it and put
+//! back into another, so that it can be paused. [`raw`] has the entry points as they are.
 //!
 //! Items, targets and refusals may come to have more: match them with `..` and `_`. A number that
-//! this crate does not know, of an archive of another version, is an [`Error`] or a [`Verdict`] that
-//! does not pass, and no panic.
+//! this crate does not know, of an archive of another version, is no panic, but an [`Error`], or a
+//! [`Verdict`] that does not pass.
 
 #![deny(unsafe_code)]
 #![warn(missing_docs)]

@@ -17,7 +17,8 @@ use crate::{raw, record, Error};
 ///
 /// # Errors
 ///
-/// [`Error::Unknown`] where the archive is not the one that this crate knows. Nothing is refused.
+/// [`Error::Unknown`] where the archive is not the one that this crate knows. No position and no
+/// length is refused.
 pub fn name(bytes: &[u8], position: u64, length: u64) -> Result<&[u8], Error> {
     let mut part = [0; record::PART];
     let number = raw::name(bytes, position, length, &mut part);

@@ -28,8 +28,8 @@ pub struct Segment {
 
 /// The segments that have chained fixups.
 ///
-/// A segment whose record is faulty is refused, [`Refusal::FaultyChains`], and the walk goes on with
-/// the next one. Any other error is the last item.
+/// A segment whose record is faulty is refused, [`Refusal::FaultyChains`], and the walk goes on
+/// with the next one. Any other error is the last item.
 #[must_use = "a walk reads nothing until it is iterated"]
 #[derive(Clone, Debug)]
 pub struct Segments<'a> {

@@ -234,8 +234,8 @@ fn no_more_than_256_nodes_are_open() {
     assert_eq!(all(&chain(257)), Err(Refusal::TooManyOpenNodes.into()));
 }
 
-/// A trie of 43 nodes with two edges each, both to the next node, and a last node without any. No node
-/// exports, and 2^43 ways lead to the last.
+/// A trie of 43 nodes with two edges each, both to the next node, and a last node without any. No
+/// node exports, and 2^43 ways lead to the last.
 fn hanging() -> Vec<u8> {
     let mut trie = Vec::new();
     for _ in 0..43 {

@@ -72,8 +72,8 @@ fn the_answers_are_the_same() {
     assert_eq!(answers(), expected);
 }
 
-/// The names of an outside header that are constants here: types, flags and special libraries, and the
-/// formats that are read.
+/// The names of an outside header that are constants here: types, flags and special libraries, and
+/// the formats that are read.
 fn is_constant(name: &str) -> bool {
     let kinds = [
         "REBASE_TYPE_",

@@ -1,5 +1,5 @@
-//! A library of another version: every entry point answers 99, which this crate does not know. That is
-//! an error everywhere, and no panic. The stand-in is tests/c/stand_in.c, and `.ci/host` links it.
+//! A library of another version: every entry point answers 99, which this crate does not know.
+//! That is an error everywhere, and no panic. `.ci/host` links the stand-in, tests/c/stand_in.c.
 
 use brinetrellis::{name, preflight, record, Verdict};
 use brinetrellis::{Binds, Error, Exports, Fixups, Found, Imports, Rebases, Segments};
