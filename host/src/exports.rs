@@ -249,3 +249,29 @@ impl<'a> Target<'a> {
         }
     }
 }
+
+#[cfg(test)]
+mod tests {
+    use super::{record, Error, Export};
+    use crate::record::write_words;
+
+    /// An export whose record has these words, with a buffer of two bytes.
+    fn read(words: &[u64]) -> Result<Export<'static>, Error> {
+        let mut item = [0; record::TRIE_ITEM];
+        write_words(words, &mut item);
+        Export::read(&[], b"ab", &item)
+    }
+
+    #[test]
+    fn a_record_of_another_version_is_an_error() {
+        let unknown = |what, number| Err(Error::Unknown { what, number });
+        // Visits, length of the name, flags, kind.
+        assert_eq!(
+            read(&[1, 2, 0, 0]).map(|export| export.name),
+            Ok(b"ab".to_vec())
+        );
+        assert_eq!(read(&[1, 2, 0, 3]), unknown("kind of export", 3));
+        assert_eq!(read(&[1, 3, 0, 0]), unknown("value of a field", 3));
+        assert_eq!(read(&[1, 2, 256, 0]), unknown("value of a field", 256));
+    }
+}

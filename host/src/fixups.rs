@@ -114,3 +114,18 @@ impl Fixup {
         })
     }
 }
+
+#[cfg(test)]
+mod tests {
+    use super::{record, Error, Fixup};
+    use crate::record::write_words;
+
+    #[test]
+    fn a_kind_of_another_version_is_an_error() {
+        let mut item = [0; record::PAGE_ITEM];
+        write_words(&[8, 2], &mut item);
+        let what = "kind of fixup";
+        let unknown = Error::Unknown { what, number: 2 };
+        assert_eq!(Fixup::read(&item), Err(unknown));
+    }
+}
