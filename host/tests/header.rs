@@ -254,16 +254,12 @@ fn the_records_of_each_typed_function_are_tested_in_c() {
 
 #[test]
 fn no_answer_may_be_dropped() {
-    let code = code();
-    let answering = code.matches("\nuint64_t brinetrellis_").count();
+    let (code, entries) = (code(), declared(RAW, " fn brinetrellis_").len());
     let warned = code.matches("\nBRINETRELLIS_MUST_USE\nuint64_t brinetrellis_");
-    assert_eq!((answering, warned.count()), (19, 19));
-    assert_eq!(typed().len(), 19);
-    let raw = RAW.matches("\npub fn ").count();
-    assert_eq!(
-        (raw, RAW.matches("\n#[must_use]\npub fn ").count()),
-        (19, 19)
-    );
+    assert_eq!(warned.count(), entries);
+    assert_eq!(typed().len(), entries);
+    let warned = RAW.matches("\n#[must_use]\npub fn ");
+    assert_eq!(warned.count(), entries);
 }
 
 /// The header without its comments.

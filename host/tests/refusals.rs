@@ -58,34 +58,37 @@ fn shortened() -> Option<Refusal> {
 fn each_refusal_has_a_sample() {
     let unversioned = u32s(&[1, 0, 0, 0, 0, 0, 0]);
     let samples = [
-        unstarted(Rebases::new(S1, 7)),
-        rebase(&[0x90]),
-        rebase(&[0x20, 0x80]),
-        bind(&[0x20, 0x80, 0x80, 0x80, 0x80, 0x08]), // 2^31
-        rebase(S4),
-        rebase(&[0x20, 0x00, 0x51]),
-        bind(&[0x70, 0x00, 0x51, 0x90]),
-        bind(&[0x70, 0x00, 0x51, 0x11, 0x90]),
-        unstarted(Segments::new(&[])),
-        unstarted(Segments::new(&unversioned)),
-        unstarted(Imports::new(&u32s(&[0, 0, 0, 0, 0, 1, 1]))),
-        pages(&one_segment(2, 1, &[])),
-        pages(&one_segment(2, 1, &[1])), // the bytes 1 to 9 of eight
-        refused(Imports::new(&with_imports(1, 1, &u32s(&[0]), b"a")).expect("a start")),
-        trie(&[], 9),
-        trie(b"\x00\x01a\x00\x00", 9), // an edge to the root
-        trie(&chain(257), 9),
-        trie(common::SHARED, 1),
-        shortened(),
-        flight(S1, &[0, 0, 39]),
-        flight(S1, &[0; 17]),
+        (1, unstarted(Rebases::new(S1, 7))),
+        (2, rebase(&[0x90])),
+        (3, rebase(&[0x20, 0x80])),
+        (4, bind(&[0x20, 0x80, 0x80, 0x80, 0x80, 0x08])), // 2^31
+        (5, rebase(S4)),
+        (6, rebase(&[0x20, 0x00, 0x51])),
+        (7, bind(&[0x70, 0x00, 0x51, 0x90])),
+        (8, bind(&[0x70, 0x00, 0x51, 0x11, 0x90])),
+        (9, unstarted(Segments::new(&[]))),
+        (10, unstarted(Segments::new(&unversioned))),
+        (11, unstarted(Imports::new(&u32s(&[0, 0, 0, 0, 0, 1, 1])))),
+        (12, pages(&one_segment(2, 1, &[]))),
+        (13, pages(&one_segment(2, 1, &[1]))), // the bytes 1 to 9 of eight
+        (
+            14,
+            refused(Imports::new(&with_imports(1, 1, &u32s(&[0]), b"a")).expect("a start")),
+        ),
+        (15, trie(&[], 9)),
+        (16, trie(b"\x00\x01a\x00\x00", 9)), // an edge to the root
+        (17, trie(&chain(257), 9)),
+        (18, trie(common::SHARED, 1)),
+        (19, shortened()),
+        (20, flight(S1, &[0, 0, 39])),
+        (21, flight(S1, &[0; 17])),
     ];
-    for (number, sample) in (1..).zip(samples) {
+    for (number, sample) in samples {
         assert_eq!(sample.map(Refusal::number), Some(number));
     }
-    let sampled: BTreeSet<Refusal> = samples.into_iter().flatten().collect();
-    let all: BTreeSet<Refusal> = Refusal::ALL.iter().copied().collect();
-    assert_eq!(sampled, all, "each has a sample");
+    let sampled = BTreeSet::from(samples.map(|(number, _)| number));
+    let all = Refusal::ALL.iter().map(|refusal| refusal.number());
+    assert_eq!(sampled, all.collect(), "each has a sample");
 }
 
 #[test]
