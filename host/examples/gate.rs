@@ -2,7 +2,7 @@
 //! bound is listed by library and name. The streams here are samples; a gate finds them by the load
 //! commands of the image.
 
-use brinetrellis::{preflight, Binds, Rebases, Refusal, Verdict};
+use brinetrellis::{preflight, Binds, Error, Rebases, Verdict};
 use std::process::ExitCode;
 
 /// Type 1; segment 2 at offset 16; three pointers; Done.
@@ -29,21 +29,25 @@ fn passes(what: &str, verdict: Verdict) -> bool {
             println!("{what}: at byte {position}, index {index}: {refusal}");
             false
         }
+        Verdict::Unknown { answer } => {
+            println!("{what}: the library is of another version, and answers {answer}");
+            false
+        }
     }
 }
 
 /// What the loader patches.
-fn list() -> Result<(), Refusal> {
-    for place in Rebases::new(REBASES, 8)? {
-        let place = place?;
-        println!("segment {} + {}: slides", place.segment, place.offset);
+fn list() -> Result<(), Error> {
+    for rebase in Rebases::new(REBASES, 8)? {
+        let rebase = rebase?;
+        println!("segment {} + {}: slides", rebase.segment, rebase.place);
     }
     for bind in Binds::plain(BINDS, 8)? {
         let bind = bind?;
         let name = String::from_utf8_lossy(bind.name);
         println!(
             "segment {} + {}: {name} of library {}",
-            bind.segment, bind.offset, bind.library
+            bind.segment, bind.place, bind.library
         );
     }
     Ok(())
@@ -57,8 +61,8 @@ fn main() -> ExitCode {
     }
     match list() {
         Ok(()) => ExitCode::SUCCESS,
-        Err(refusal) => {
-            println!("refused: {refusal}");
+        Err(error) => {
+            println!("not listed: {error}");
             ExitCode::FAILURE
         }
     }

@@ -2,17 +2,18 @@
 #include <inttypes.h>
 #include <stdio.h>
 
-#define LENT(record) (uint8_t *)&(record), sizeof(record)
-
 int main(void) {
     const uint8_t stream[] = {0x11, 0x22, 0x10, 0x53, 0x00};
     struct brinetrellis_rebase_state state;
     struct brinetrellis_rebase_item item;
-    uint64_t answer = brinetrellis_rebase_start(8, LENT(state));
+    enum brinetrellis_answer answer = brinetrellis_rebases_start(8, &state);
     while (answer == BRINETRELLIS_ITEM) {
-        answer = brinetrellis_rebase_step(stream, sizeof stream, LENT(state), LENT(item));
+        answer = brinetrellis_rebases_next(stream, sizeof stream, &state, &item);
         if (answer == BRINETRELLIS_ITEM)
-            printf("segment %" PRIu64 ", offset %" PRIu64 ", type %" PRIu64 "\n", item.segment, item.offset, item.type);
+            printf("segment %" PRIu64 ", offset %" PRIu64 ", type %" PRIu64 "\n", item.segment, item.place, item.type);
     }
-    return answer == BRINETRELLIS_END ? 0 : (int)answer;
+    if (answer == BRINETRELLIS_END)
+        return 0;
+    fprintf(stderr, "refused: %s\n", brinetrellis_refusal_text(answer));
+    return 1;
 }

@@ -1,12 +1,12 @@
-use brinetrellis::{Rebases, Refusal};
+use brinetrellis::{Error, Rebases};
 
-fn main() -> Result<(), Refusal> {
+fn main() -> Result<(), Error> {
     let stream = [0x11, 0x22, 0x10, 0x53, 0x00];
-    for place in Rebases::new(&stream, 8)? {
-        let place = place?;
+    for rebase in Rebases::new(&stream, 8)? {
+        let rebase = rebase?;
         println!(
             "segment {}, offset {}, type {}",
-            place.segment, place.offset, place.kind
+            rebase.segment, rebase.place, rebase.kind
         );
     }
     Ok(())

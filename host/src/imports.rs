@@ -2,10 +2,11 @@
 
 use crate::record::{self, narrow_signed, signed, word};
 use crate::walk::Walk;
-use crate::{name, raw, Refusal};
+use crate::{name, raw, Error};
 
 /// A symbol that is imported.
 #[derive(Clone, Copy, Debug, PartialEq, Eq)]
+#[non_exhaustive]
 pub struct Import<'a> {
     /// The library that it is taken from, by its number; special ones are negative.
     pub library: i32,
@@ -17,7 +18,10 @@ pub struct Import<'a> {
     pub name: &'a [u8],
 }
 
-/// The imports of chained fixups; a fixup's ordinal counts them from 0. A refusal is the last item.
+/// The imports of chained fixups; the ordinal of a bind among the fixups counts them from 0.
+///
+/// An error is the last item.
+#[must_use = "a walk reads nothing until it is iterated"]
 #[derive(Clone, Debug)]
 pub struct Imports<'a> {
     fixups: &'a [u8],
@@ -26,7 +30,12 @@ pub struct Imports<'a> {
 
 impl<'a> Imports<'a> {
     /// A walk over the imports of chained fixups.
-    pub fn new(fixups: &'a [u8]) -> Result<Self, Refusal> {
+    ///
+    /// # Errors
+    ///
+    /// A refusal where the header does not fit, or its version or the format of its symbols is not
+    /// known, or the imports or the symbols lie beyond the bytes.
+    pub fn new(fixups: &'a [u8]) -> Result<Self, Error> {
         let walk = Walk::start(|state| raw::import_start(fixups, state))?;
         Ok(Imports { fixups, walk })
     }
@@ -39,28 +48,29 @@ impl<'a> Imports<'a> {
     }
 
     /// The state, to go on from.
+    #[must_use]
     pub fn into_state(self) -> [u8; record::IMPORT_STATE] {
         self.walk.into_state()
     }
 }
 
 impl<'a> Iterator for Imports<'a> {
-    type Item = Result<Import<'a>, Refusal>;
+    type Item = Result<Import<'a>, Error>;
 
     fn next(&mut self) -> Option<Self::Item> {
         let fixups = self.fixups;
-        let next = self.walk.next(|s, item| raw::import_step(fixups, s, item));
-        next.map(|answer| answer.map(|item| Import::read(fixups, &item)))
+        let step = |state: &mut [u8], item: &mut [u8]| raw::import_step(fixups, state, item);
+        self.walk.next(step, |item| Import::read(fixups, item))
     }
 }
 
 impl<'a> Import<'a> {
-    fn read(fixups: &'a [u8], item: &[u8; record::IMPORT_ITEM]) -> Import<'a> {
-        Import {
-            library: narrow_signed(item, 0),
+    fn read(fixups: &'a [u8], item: &[u8; record::IMPORT_ITEM]) -> Result<Import<'a>, Error> {
+        Ok(Import {
+            library: narrow_signed(item, 0)?,
             weak: word(item, 1) != 0,
             addend: signed(item, 2),
-            name: name(fixups, word(item, 3), word(item, 4)),
-        }
+            name: name(fixups, word(item, 3), word(item, 4))?,
+        })
     }
 }

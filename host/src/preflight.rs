@@ -3,9 +3,23 @@
 
 use crate::answer::Answer;
 use crate::record::{self, word, write_words};
-use crate::{raw, Refusal};
+use crate::{raw, Error, Refusal};
 
-/// What a preflight says of a stream.
+/// What a preflight says of a stream. Only one that passes may ship.
+///
+/// A verdict that is dropped is a stream that nobody has judged; the compiler warns of it:
+///
+/// ```compile_fail
+/// #![deny(unused_must_use)]
+/// brinetrellis::preflight::rebases(&[0x51], 8, &[]);
+/// ```
+///
+/// ```
+/// #![deny(unused_must_use)]
+/// let verdict = brinetrellis::preflight::rebases(&[0x51], 8, &[]);
+/// assert!(!verdict.passes());
+/// ```
+#[must_use = "a stream that does not pass must not ship"]
 #[derive(Clone, Copy, Debug, PartialEq, Eq)]
 pub enum Verdict {
     /// The walk over it ends, and every place is inside its segment.
@@ -22,6 +36,20 @@ pub enum Verdict {
         /// The index in the repeat of a place that is outside; else 0.
         index: u64,
     },
+    /// No verdict: the archive has answered a number that this crate does not know, so it is of
+    /// another version.
+    Unknown {
+        /// The number.
+        answer: u64,
+    },
+}
+
+impl Verdict {
+    /// Whether the stream passes.
+    #[must_use]
+    pub const fn passes(self) -> bool {
+        matches!(self, Verdict::Passes { .. })
+    }
 }
 
 /// The preflight of a rebase stream of a pointer size; `sizes` are those of the segments in order.
@@ -66,15 +94,16 @@ fn judge(entry: Entry, stream: &[u8], pointer_size: u64, sizes: &[u64]) -> Verdi
     write_words(sizes, &mut bytes);
     let bytes = &bytes[..8 * sizes.len().min(ENOUGH)];
     let mut verdict = [0; record::VERDICT];
-    match Answer::of(entry(stream, pointer_size, bytes, &mut verdict)) {
-        Answer::Item => Verdict::Passes {
+    let answer = entry(stream, pointer_size, bytes, &mut verdict);
+    match Answer::of(answer) {
+        Ok(Answer::Item) => Verdict::Passes {
             operations: word(&verdict, 0),
         },
-        Answer::Refused(refusal) => Verdict::Fault {
+        Err(Error::Refused(refusal)) => Verdict::Fault {
             refusal,
             position: word(&verdict, 0),
             index: word(&verdict, 1),
         },
-        Answer::End | Answer::More => unreachable!("a preflight passes, or is refused"),
+        _ => Verdict::Unknown { answer },
     }
 }

@@ -133,7 +133,7 @@ extern "C" {
     fn brinetrellis_name(
         bytes: *const u8,
         bytes_length: usize,
-        place: u64,
+        position: u64,
         length: u64,
         part: *mut u8,
         part_length: usize,
@@ -141,12 +141,14 @@ extern "C" {
 }
 
 /// Begins a walk over a rebase stream of a pointer size.
+#[must_use]
 pub fn rebase_start(pointer_size: u64, state: &mut [u8]) -> u64 {
     // SAFETY: the slices are lent for the call, and those that are written to no one else.
     unsafe { brinetrellis_rebase_start(pointer_size, state.as_mut_ptr(), state.len()) }
 }
 
 /// The next place of a rebase stream.
+#[must_use]
 pub fn rebase_step(stream: &[u8], state: &mut [u8], item: &mut [u8]) -> u64 {
     // SAFETY: the slices are lent for the call, and those that are written to no one else.
     unsafe {
@@ -162,24 +164,28 @@ pub fn rebase_step(stream: &[u8], state: &mut [u8], item: &mut [u8]) -> u64 {
 }
 
 /// Begins a walk over a stream of plain binds, of a pointer size.
+#[must_use]
 pub fn bind_plain(pointer_size: u64, state: &mut [u8]) -> u64 {
     // SAFETY: the slices are lent for the call, and those that are written to no one else.
     unsafe { brinetrellis_bind_plain(pointer_size, state.as_mut_ptr(), state.len()) }
 }
 
 /// Begins a walk over a stream of weak binds, of a pointer size.
+#[must_use]
 pub fn bind_weak(pointer_size: u64, state: &mut [u8]) -> u64 {
     // SAFETY: the slices are lent for the call, and those that are written to no one else.
     unsafe { brinetrellis_bind_weak(pointer_size, state.as_mut_ptr(), state.len()) }
 }
 
 /// Begins a walk over a stream of lazy binds, of a pointer size.
+#[must_use]
 pub fn bind_lazy(pointer_size: u64, state: &mut [u8]) -> u64 {
     // SAFETY: the slices are lent for the call, and those that are written to no one else.
     unsafe { brinetrellis_bind_lazy(pointer_size, state.as_mut_ptr(), state.len()) }
 }
 
 /// The next place of a bind stream.
+#[must_use]
 pub fn bind_step(stream: &[u8], state: &mut [u8], item: &mut [u8]) -> u64 {
     // SAFETY: the slices are lent for the call, and those that are written to no one else.
     unsafe {
@@ -195,6 +201,7 @@ pub fn bind_step(stream: &[u8], state: &mut [u8], item: &mut [u8]) -> u64 {
 }
 
 /// The preflight of a rebase stream.
+#[must_use]
 pub fn preflight_rebase(stream: &[u8], pointer_size: u64, sizes: &[u8], verdict: &mut [u8]) -> u64 {
     // SAFETY: the slices are lent for the call, and those that are written to no one else.
     unsafe {
@@ -211,6 +218,7 @@ pub fn preflight_rebase(stream: &[u8], pointer_size: u64, sizes: &[u8], verdict:
 }
 
 /// The preflight of a stream of plain binds.
+#[must_use]
 pub fn preflight_plain(stream: &[u8], pointer_size: u64, sizes: &[u8], verdict: &mut [u8]) -> u64 {
     // SAFETY: the slices are lent for the call, and those that are written to no one else.
     unsafe {
@@ -227,6 +235,7 @@ pub fn preflight_plain(stream: &[u8], pointer_size: u64, sizes: &[u8], verdict: 
 }
 
 /// The preflight of a stream of weak binds.
+#[must_use]
 pub fn preflight_weak(stream: &[u8], pointer_size: u64, sizes: &[u8], verdict: &mut [u8]) -> u64 {
     // SAFETY: the slices are lent for the call, and those that are written to no one else.
     unsafe {
@@ -243,6 +252,7 @@ pub fn preflight_weak(stream: &[u8], pointer_size: u64, sizes: &[u8], verdict: &
 }
 
 /// The preflight of a stream of lazy binds.
+#[must_use]
 pub fn preflight_lazy(stream: &[u8], pointer_size: u64, sizes: &[u8], verdict: &mut [u8]) -> u64 {
     // SAFETY: the slices are lent for the call, and those that are written to no one else.
     unsafe {
@@ -259,12 +269,14 @@ pub fn preflight_lazy(stream: &[u8], pointer_size: u64, sizes: &[u8], verdict: &
 }
 
 /// Begins a walk over an exports trie.
+#[must_use]
 pub fn trie_start(state: &mut [u8]) -> u64 {
     // SAFETY: the slices are lent for the call, and those that are written to no one else.
     unsafe { brinetrellis_trie_start(state.as_mut_ptr(), state.len()) }
 }
 
 /// The next export of a trie, if it is found within `limit` nodes.
+#[must_use]
 pub fn trie_step(
     trie: &[u8],
     state: &mut [u8],
@@ -289,6 +301,7 @@ pub fn trie_step(
 }
 
 /// Begins a walk over the segments of chained fixups.
+#[must_use]
 pub fn segment_start(fixups: &[u8], state: &mut [u8]) -> u64 {
     // SAFETY: the slices are lent for the call, and those that are written to no one else.
     unsafe {
@@ -302,6 +315,7 @@ pub fn segment_start(fixups: &[u8], state: &mut [u8]) -> u64 {
 }
 
 /// The next segment that has chained fixups.
+#[must_use]
 pub fn segment_step(fixups: &[u8], state: &mut [u8], item: &mut [u8]) -> u64 {
     // SAFETY: the slices are lent for the call, and those that are written to no one else.
     unsafe {
@@ -317,6 +331,7 @@ pub fn segment_step(fixups: &[u8], state: &mut [u8], item: &mut [u8]) -> u64 {
 }
 
 /// Begins a walk over the fixups of a segment, an item of the segment walk.
+#[must_use]
 pub fn page_start(fixups: &[u8], segment: &[u8], base: u64, state: &mut [u8]) -> u64 {
     // SAFETY: the slices are lent for the call, and those that are written to no one else.
     unsafe {
@@ -333,6 +348,7 @@ pub fn page_start(fixups: &[u8], segment: &[u8], base: u64, state: &mut [u8]) ->
 }
 
 /// The next fixup of a segment, whose bytes are `contents`.
+#[must_use]
 pub fn page_step(fixups: &[u8], contents: &[u8], state: &mut [u8], item: &mut [u8]) -> u64 {
     // SAFETY: the slices are lent for the call, and those that are written to no one else.
     unsafe {
@@ -350,6 +366,7 @@ pub fn page_step(fixups: &[u8], contents: &[u8], state: &mut [u8], item: &mut [u
 }
 
 /// Begins a walk over the imports of chained fixups.
+#[must_use]
 pub fn import_start(fixups: &[u8], state: &mut [u8]) -> u64 {
     // SAFETY: the slices are lent for the call, and those that are written to no one else.
     unsafe {
@@ -363,6 +380,7 @@ pub fn import_start(fixups: &[u8], state: &mut [u8]) -> u64 {
 }
 
 /// The next import of chained fixups.
+#[must_use]
 pub fn import_step(fixups: &[u8], state: &mut [u8], item: &mut [u8]) -> u64 {
     // SAFETY: the slices are lent for the call, and those that are written to no one else.
     unsafe {
@@ -377,14 +395,15 @@ pub fn import_step(fixups: &[u8], state: &mut [u8], item: &mut [u8]) -> u64 {
     }
 }
 
-/// The part of the bytes at a place and of a length.
-pub fn name(bytes: &[u8], place: u64, length: u64, part: &mut [u8]) -> u64 {
+/// The part of the bytes at a position and of a length.
+#[must_use]
+pub fn name(bytes: &[u8], position: u64, length: u64, part: &mut [u8]) -> u64 {
     // SAFETY: the slices are lent for the call, and those that are written to no one else.
     unsafe {
         brinetrellis_name(
             bytes.as_ptr(),
             bytes.len(),
-            place,
+            position,
             length,
             part.as_mut_ptr(),
             part.len(),

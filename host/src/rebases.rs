@@ -2,34 +2,37 @@
 
 use crate::record::{self, narrow, word};
 use crate::walk::Walk;
-use crate::{raw, Refusal};
+use crate::{raw, Error};
 
 /// A place that the loader slides.
 #[derive(Clone, Copy, Debug, PartialEq, Eq)]
+#[non_exhaustive]
 pub struct Rebase {
     /// The index of its segment.
     pub segment: u8,
-    /// Its offset there.
-    pub offset: u64,
+    /// Where it is: its offset in the segment.
+    pub place: u64,
     /// Its type.
     pub kind: u8,
 }
 
 /// The places of a rebase stream.
 ///
-/// A refusal is the last item. After the `None` of a Done, `next` goes on behind that Done; so this
+/// An error is the last item. After the `None` of a Done, `next` goes on behind that Done; so this
 /// is no `FusedIterator`.
 ///
 /// ```
-/// use brinetrellis::{Rebases, Refusal};
+/// use brinetrellis::{Error, Rebases, Refusal};
 ///
-/// let mut places = Rebases::new(&[0x51], 8)?;
-/// assert_eq!(places.next(), Some(Err(Refusal::NoSegment)));
-/// assert_eq!(places.next(), None);
+/// let mut rebases = Rebases::new(&[0x51], 8)?;
+/// assert_eq!(rebases.next(), Some(Err(Error::Refused(Refusal::NoSegment))));
+/// assert_eq!(rebases.next(), None);
 ///
-/// assert_eq!(Rebases::new(&[0x51], 7).err(), Some(Refusal::PointerSize));
-/// # Ok::<(), Refusal>(())
+/// let error = Rebases::new(&[0x51], 7).unwrap_err();
+/// assert_eq!(error.to_string(), "pointer size is neither 4 nor 8");
+/// # Ok::<(), Error>(())
 /// ```
+#[must_use = "a walk reads nothing until it is iterated"]
 #[derive(Clone, Debug)]
 pub struct Rebases<'a> {
     stream: &'a [u8],
@@ -38,7 +41,11 @@ pub struct Rebases<'a> {
 
 impl<'a> Rebases<'a> {
     /// A walk over a stream of a pointer size, which is 4 or 8.
-    pub fn new(stream: &'a [u8], pointer_size: u64) -> Result<Self, Refusal> {
+    ///
+    /// # Errors
+    ///
+    /// [`Refusal::PointerSize`](crate::Refusal::PointerSize) for any other size.
+    pub fn new(stream: &'a [u8], pointer_size: u64) -> Result<Self, Error> {
         let walk = Walk::start(|state| raw::rebase_start(pointer_size, state))?;
         Ok(Rebases { stream, walk })
     }
@@ -51,27 +58,28 @@ impl<'a> Rebases<'a> {
     }
 
     /// The state, to go on from.
+    #[must_use]
     pub fn into_state(self) -> [u8; record::REBASE_STATE] {
         self.walk.into_state()
     }
 }
 
 impl Iterator for Rebases<'_> {
-    type Item = Result<Rebase, Refusal>;
+    type Item = Result<Rebase, Error>;
 
     fn next(&mut self) -> Option<Self::Item> {
         let stream = self.stream;
-        let next = self.walk.next(|s, item| raw::rebase_step(stream, s, item));
-        next.map(|answer| answer.map(|item| Rebase::read(&item)))
+        let step = |state: &mut [u8], item: &mut [u8]| raw::rebase_step(stream, state, item);
+        self.walk.next(step, Rebase::read)
     }
 }
 
 impl Rebase {
-    fn read(item: &[u8; record::REBASE_ITEM]) -> Rebase {
-        Rebase {
-            segment: narrow(item, 0),
-            offset: word(item, 1),
-            kind: narrow(item, 2),
-        }
+    fn read(item: &[u8; record::REBASE_ITEM]) -> Result<Rebase, Error> {
+        Ok(Rebase {
+            segment: narrow(item, 0)?,
+            place: word(item, 1),
+            kind: narrow(item, 2)?,
+        })
     }
 }

@@ -1,5 +1,7 @@
 //! The lengths of records in bytes, and their words.
 
+use crate::Error;
+
 /// The state of a rebase walk.
 pub const REBASE_STATE: usize = 80;
 /// A place of a rebase stream.
@@ -48,20 +50,19 @@ pub(crate) fn signed(record: &[u8], index: usize) -> i64 {
 }
 
 /// The word of an index, which fits a type with fewer bits.
-pub(crate) fn narrow<T: TryFrom<u64>>(record: &[u8], index: usize) -> T {
-    match T::try_from(word(record, index)) {
-        Ok(value) => value,
-        Err(_) => unreachable!("the library writes no value that a field's type does not have"),
-    }
+pub(crate) fn narrow<T: TryFrom<u64>>(record: &[u8], index: usize) -> Result<T, Error> {
+    let value = word(record, index);
+    T::try_from(value).map_err(|_| Error::unknown(FIELD, value))
 }
 
 /// The word of an index, which is a signed number of 32 bits.
-pub(crate) fn narrow_signed(record: &[u8], index: usize) -> i32 {
-    match i32::try_from(signed(record, index)) {
-        Ok(value) => value,
-        Err(_) => unreachable!("the library writes no library number beyond 32 bits"),
-    }
+pub(crate) fn narrow_signed(record: &[u8], index: usize) -> Result<i32, Error> {
+    let value = signed(record, index);
+    i32::try_from(value).map_err(|_| Error::unknown(FIELD, value as u64))
 }
+
+/// What the library writes no value of that a field's type does not have.
+pub(crate) const FIELD: &str = "value of a field";
 
 /// Words one behind the other, as many as fit.
 pub(crate) fn write_words(words: &[u64], record: &mut [u8]) {

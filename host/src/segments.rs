@@ -2,10 +2,11 @@
 
 use crate::record::{self, narrow, word, write_words};
 use crate::walk::Walk;
-use crate::{raw, Refusal};
+use crate::{raw, Error, Refusal};
 
 /// What chained fixups know of a segment.
 #[derive(Clone, Copy, Debug, PartialEq, Eq)]
+#[non_exhaustive]
 pub struct Segment {
     /// Its index.
     pub index: u64,
@@ -20,15 +21,16 @@ pub struct Segment {
     /// How many pages it has.
     pub pages: u16,
     /// Where its list of starts is, in the bytes of the fixups.
-    pub place: u64,
+    pub position: u64,
     /// How many starts the list has.
     pub count: u64,
 }
 
 /// The segments that have chained fixups.
 ///
-/// A segment whose record is faulty is refused, 9, and the walk goes on with the next one. Any other
-/// refusal is the last item.
+/// A segment whose record is faulty is refused, [`Refusal::FaultyChains`], and the walk goes on
+/// with the next one. Any other error is the last item.
+#[must_use = "a walk reads nothing until it is iterated"]
 #[derive(Clone, Debug)]
 pub struct Segments<'a> {
     fixups: &'a [u8],
@@ -37,7 +39,11 @@ pub struct Segments<'a> {
 
 impl<'a> Segments<'a> {
     /// A walk over the segments of chained fixups.
-    pub fn new(fixups: &'a [u8]) -> Result<Self, Refusal> {
+    ///
+    /// # Errors
+    ///
+    /// A refusal where the header or the starts do not fit, or the version is not known.
+    pub fn new(fixups: &'a [u8]) -> Result<Self, Error> {
         let walk = Walk::start(|state| raw::segment_start(fixups, state))?;
         Ok(Segments { fixups, walk })
     }
@@ -50,36 +56,38 @@ impl<'a> Segments<'a> {
     }
 
     /// The state, to go on from.
+    #[must_use]
     pub fn into_state(self) -> [u8; record::SEGMENT_STATE] {
         self.walk.into_state()
     }
 }
 
 impl Iterator for Segments<'_> {
-    type Item = Result<Segment, Refusal>;
+    type Item = Result<Segment, Error>;
 
     fn next(&mut self) -> Option<Self::Item> {
         let fixups = self.fixups;
-        let next = self.walk.next(|s, item| raw::segment_step(fixups, s, item));
-        if let Some(Err(Refusal::FaultyChains)) = next {
+        let step = |state: &mut [u8], item: &mut [u8]| raw::segment_step(fixups, state, item);
+        let next = self.walk.next(step, Segment::read);
+        if let Some(Err(Error::Refused(Refusal::FaultyChains))) = next {
             self.walk.go_on();
         }
-        next.map(|answer| answer.map(|item| Segment::read(&item)))
+        next
     }
 }
 
 impl Segment {
-    fn read(item: &[u8; record::SEGMENT_ITEM]) -> Segment {
-        Segment {
+    fn read(item: &[u8; record::SEGMENT_ITEM]) -> Result<Segment, Error> {
+        Ok(Segment {
             index: word(item, 0),
-            page_size: narrow(item, 1),
-            format: narrow(item, 2),
+            page_size: narrow(item, 1)?,
+            format: narrow(item, 2)?,
             offset: word(item, 3),
             limit: word(item, 4),
-            pages: narrow(item, 5),
-            place: word(item, 6),
+            pages: narrow(item, 5)?,
+            position: word(item, 6),
             count: word(item, 7),
-        }
+        })
     }
 
     /// The record of the segment, as the library has it.
@@ -92,7 +100,7 @@ impl Segment {
             self.offset,
             self.limit,
             self.pages.into(),
-            self.place,
+            self.position,
             self.count,
         ];
         write_words(&words, &mut item);

@@ -1,7 +1,7 @@
-//! What every walk keeps: its state, and whether a refusal has stopped it.
+//! What every walk keeps: its state, and whether an error has stopped it.
 
-use crate::answer::Answer;
-use crate::Refusal;
+use crate::answer::{self, Answer};
+use crate::Error;
 
 /// A state of so many bytes.
 #[derive(Clone, Debug)]
@@ -12,12 +12,12 @@ pub(crate) struct Walk<const STATE: usize> {
 
 impl<const STATE: usize> Walk<STATE> {
     /// The walk whose state a start writes.
-    pub(crate) fn start(start: impl FnOnce(&mut [u8]) -> u64) -> Result<Self, Refusal> {
+    pub(crate) fn start(start: impl FnOnce(&mut [u8]) -> u64) -> Result<Self, Error> {
         let mut state = [0; STATE];
-        match Answer::of(start(&mut state)) {
+        let number = start(&mut state);
+        match Answer::of(number)? {
             Answer::Item => Ok(Walk::from_state(state)),
-            Answer::Refused(refusal) => Err(refusal),
-            Answer::End | Answer::More => unreachable!("a start begins, or is refused"),
+            Answer::End | Answer::More => Err(Error::unknown("answer of a start", number)),
         }
     }
 
@@ -31,28 +31,36 @@ impl<const STATE: usize> Walk<STATE> {
         self.state
     }
 
-    /// One call on the state; none where a refusal has stopped the walk.
-    pub(crate) fn call(&mut self, step: impl FnOnce(&mut [u8]) -> u64) -> Answer {
+    /// One call on the state; none where an error has stopped the walk.
+    pub(crate) fn call(&mut self, step: impl FnOnce(&mut [u8]) -> u64) -> Result<Answer, Error> {
         if self.stopped {
-            return Answer::End;
+            return Ok(Answer::End);
         }
         let answer = Answer::of(step(&mut self.state));
-        self.stopped = matches!(answer, Answer::Refused(_));
+        self.stopped = answer.is_err();
         answer
     }
 
     /// One call of a walk over items of so many bytes, as an iterator answers it.
-    pub(crate) fn next<const ITEM: usize>(
+    pub(crate) fn next<T, const ITEM: usize>(
         &mut self,
         step: impl FnOnce(&mut [u8], &mut [u8]) -> u64,
-    ) -> Option<Result<[u8; ITEM], Refusal>> {
+        read: impl FnOnce(&[u8; ITEM]) -> Result<T, Error>,
+    ) -> Option<Result<T, Error>> {
         let mut item = [0; ITEM];
-        match self.call(|state| step(state, &mut item)) {
-            Answer::Item => Some(Ok(item)),
-            Answer::Refused(refusal) => Some(Err(refusal)),
-            Answer::End => None,
-            Answer::More => unreachable!("only a walk over a trie says that there is more"),
-        }
+        let answer = match self.call(|state| step(state, &mut item)) {
+            Ok(Answer::Item) => read(&item),
+            Ok(Answer::End) => return None,
+            Ok(Answer::More) => Err(Error::unknown("answer of a step", answer::MORE)),
+            Err(error) => Err(error),
+        };
+        self.stopped = answer.is_err();
+        Some(answer)
+    }
+
+    /// The walk has come to an error.
+    pub(crate) fn stop(&mut self) {
+        self.stopped = true;
     }
 
     /// The walk goes on after the refusal that has stopped it.

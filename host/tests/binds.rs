@@ -2,14 +2,45 @@
 
 mod common;
 
-use brinetrellis::{Bind, Binds, Refusal};
+use brinetrellis::{Bind, Binds, Error, Refusal};
 use common::S2;
 
-/// The bind of S2 and its like: everything but the offset is as in S2.
-fn bind(offset: u64) -> Bind<'static> {
-    Bind {
+/// What a bind says.
+#[derive(Debug, PartialEq, Eq)]
+struct Told<'a> {
+    segment: u8,
+    place: u64,
+    kind: u8,
+    library: i32,
+    name: &'a [u8],
+    flags: u8,
+    addend: i64,
+}
+
+impl<'a> From<Bind<'a>> for Told<'a> {
+    fn from(bind: Bind<'a>) -> Told<'a> {
+        Told {
+            segment: bind.segment,
+            place: bind.place,
+            kind: bind.kind,
+            library: bind.library,
+            name: bind.name,
+            flags: bind.flags,
+            addend: bind.addend,
+        }
+    }
+}
+
+/// What the walk says next.
+fn next<'a>(walk: &mut Binds<'a>) -> Option<Result<Told<'a>, Error>> {
+    walk.next().map(|next| next.map(Told::from))
+}
+
+/// The bind of S2 and its like: everything but the place is as in S2.
+fn bind(place: u64) -> Told<'static> {
+    Told {
         segment: 2,
-        offset,
+        place,
         kind: 1,
         library: 1,
         name: b"_a",
@@ -18,16 +49,16 @@ fn bind(offset: u64) -> Bind<'static> {
     }
 }
 
-fn plain(stream: &[u8]) -> Vec<Bind<'_>> {
+fn plain(stream: &[u8]) -> Vec<Told<'_>> {
     let walk = Binds::plain(stream, 8).expect("a start");
-    walk.map(|bind| bind.expect("a bind")).collect()
+    walk.map(|bind| bind.expect("a bind").into()).collect()
 }
 
 #[test]
 fn s2_has_one_bind() {
     let mut walk = Binds::plain(S2, 8).expect("a start");
-    assert_eq!(walk.next(), Some(Ok(bind(8))));
-    assert_eq!(walk.next(), None);
+    assert_eq!(next(&mut walk), Some(Ok(bind(8))));
+    assert_eq!(next(&mut walk), None);
 }
 
 #[test]
@@ -48,9 +79,9 @@ fn each_operation_moves_the_offset_by_its_rule() {
 }
 
 #[test]
-fn flags_types_and_ordinals_are_set() {
+fn flags_types_and_libraries_are_set() {
     let stream = b"\x1f\x4f_a\x00\x5f\x7f\x08\x90";
-    let set = Bind {
+    let set = Told {
         segment: 15,
         kind: 15,
         library: 15,
@@ -69,12 +100,12 @@ fn special_libraries_are_negative_but_for_0() {
 }
 
 #[test]
-fn the_largest_ordinal_is_2147483647() {
+fn the_largest_library_is_2147483647() {
     let largest = b"\x20\xff\xff\xff\xff\x07\x40\x00\x51\x70\x00\x90";
     assert_eq!(plain(largest)[0].library, 2147483647);
     let above = b"\x20\x80\x80\x80\x80\x08";
     let mut walk = Binds::plain(above, 8).expect("a start");
-    assert_eq!(walk.next(), Some(Err(Refusal::OrdinalTooLarge)));
+    assert_eq!(next(&mut walk), Some(Err(Refusal::OrdinalTooLarge.into())));
 }
 
 #[test]
@@ -95,38 +126,38 @@ fn addends_are_signed() {
 #[test]
 fn a_weak_walk_begins_with_type_and_library() {
     let stream = b"\x40_a\x00\x72\x08\x90";
-    let weak = Bind {
+    let weak = Told {
         library: -3,
         ..bind(8)
     };
     let mut walk = Binds::weak(stream, 8).expect("a start");
-    assert_eq!(walk.next(), Some(Ok(weak)));
-    assert_eq!(walk.next(), None);
+    assert_eq!(next(&mut walk), Some(Ok(weak)));
+    assert_eq!(next(&mut walk), None);
     // The others lack the type, or the library.
     let mut walk = Binds::plain(stream, 8).expect("a start");
-    assert_eq!(walk.next(), Some(Err(Refusal::NoType)));
+    assert_eq!(next(&mut walk), Some(Err(Refusal::NoType.into())));
     let mut walk = Binds::lazy(stream, 8).expect("a start");
-    assert_eq!(walk.next(), Some(Err(Refusal::NoLibrary)));
+    assert_eq!(next(&mut walk), Some(Err(Refusal::NoLibrary.into())));
 }
 
 #[test]
 fn done_puts_a_lazy_walk_back_to_its_start() {
     // Two binds with a Done behind each; the second sets anew all but the type.
     let stream = b"\x55\x72\x08\x11\x40_a\x00\x60\x01\x90\x00\x72\x10\x11\x40_a\x00\x90\x00";
-    let first = Bind {
+    let first = Told {
         kind: 5,
         addend: 1,
         ..bind(8)
     };
     let mut walk = Binds::lazy(stream, 8).expect("a start");
-    assert_eq!(walk.next(), Some(Ok(first)));
-    assert_eq!(walk.next(), Some(Ok(bind(16))));
-    assert_eq!(walk.next(), None);
+    assert_eq!(next(&mut walk), Some(Ok(first)));
+    assert_eq!(next(&mut walk), Some(Ok(bind(16))));
+    assert_eq!(next(&mut walk), None);
     // Here the second sets nothing.
     let mut walk = Binds::lazy(b"\x72\x08\x11\x40_a\x00\x90\x00\x90", 8).expect("a start");
-    assert_eq!(walk.next(), Some(Ok(bind(8))));
-    assert_eq!(walk.next(), Some(Err(Refusal::NoSegment)));
-    assert_eq!(walk.next(), None);
+    assert_eq!(next(&mut walk), Some(Ok(bind(8))));
+    assert_eq!(next(&mut walk), Some(Err(Refusal::NoSegment.into())));
+    assert_eq!(next(&mut walk), None);
 }
 
 #[test]
@@ -134,11 +165,11 @@ fn a_call_after_done_goes_on_behind_it() {
     let stream = [S2, &[0x00, 0x90, 0x00]].concat();
     for start in [Binds::plain, Binds::weak] {
         let mut walk = start(&stream, 8).expect("a start");
-        assert_eq!(walk.next(), Some(Ok(bind(8))));
-        assert_eq!(walk.next(), None);
-        assert_eq!(walk.next(), Some(Ok(bind(16))));
-        assert_eq!(walk.next(), None);
-        assert_eq!(walk.next(), None);
+        assert_eq!(next(&mut walk), Some(Ok(bind(8))));
+        assert_eq!(next(&mut walk), None);
+        assert_eq!(next(&mut walk), Some(Ok(bind(16))));
+        assert_eq!(next(&mut walk), None);
+        assert_eq!(next(&mut walk), None);
     }
 }
 
@@ -146,10 +177,10 @@ fn a_call_after_done_goes_on_behind_it() {
 fn a_walk_is_paused_within_a_repeat() {
     let stream = b"\x11\x40_a\x00\x51\x72\x08\xc0\x02\x00";
     let mut walk = Binds::plain(stream, 8).expect("a start");
-    assert_eq!(walk.next(), Some(Ok(bind(8))));
+    assert_eq!(next(&mut walk), Some(Ok(bind(8))));
     let mut again = Binds::from_state(stream, walk.into_state());
-    assert_eq!(again.next(), Some(Ok(bind(16))));
-    assert_eq!(again.next(), None);
+    assert_eq!(next(&mut again), Some(Ok(bind(16))));
+    assert_eq!(next(&mut again), None);
 }
 
 #[test]
@@ -157,16 +188,16 @@ fn a_name_that_does_not_lie_in_the_stream_is_empty() {
     // Two binds, the second of which is due when the walk is paused; then its name is moved.
     let stream = b"\x11\x40_a\x00\x51\x72\x08\xc0\x02\x00";
     let mut walk = Binds::plain(stream, 8).expect("a start");
-    assert_eq!(walk.next(), Some(Ok(bind(8))));
+    assert_eq!(next(&mut walk), Some(Ok(bind(8))));
     let mut state = walk.into_state();
-    let place = 14;
-    common::put(&mut state, place, stream.len() as u64 - 1);
-    let moved = Bind {
+    let name = 14; // the word that has its place
+    common::put(&mut state, name, stream.len() as u64 - 1);
+    let moved = Told {
         name: b"",
         ..bind(16)
     };
     let mut again = Binds::from_state(stream, state);
-    assert_eq!(again.next(), Some(Ok(moved)));
+    assert_eq!(next(&mut again), Some(Ok(moved)));
 }
 
 #[test]
@@ -174,7 +205,7 @@ fn threaded_binds_are_refused() {
     for opcode in [0xd0, 0xd1, 0xe0, 0xff] {
         let stream = [opcode];
         let mut walk = Binds::plain(&stream, 8).expect("a start");
-        assert_eq!(walk.next(), Some(Err(Refusal::UnknownOpcode)));
+        assert_eq!(next(&mut walk), Some(Err(Refusal::UnknownOpcode.into())));
     }
 }
 
@@ -182,7 +213,11 @@ fn threaded_binds_are_refused() {
 fn pointer_sizes_are_4_and_8() {
     for start in [Binds::plain, Binds::weak, Binds::lazy] {
         for size in [0, 5, 256 + 8, u64::MAX] {
-            assert_eq!(start(S2, size).err(), Some(Refusal::PointerSize), "{size}");
+            assert_eq!(
+                start(S2, size).err(),
+                Some(Refusal::PointerSize.into()),
+                "{size}"
+            );
         }
         assert!(start(S2, 4).is_ok());
     }

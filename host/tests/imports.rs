@@ -2,20 +2,27 @@
 
 mod common;
 
-use brinetrellis::{Import, Imports, Refusal};
+use brinetrellis::{Error, Import, Imports, Refusal};
 use common::{sample, u32s, u64s, with_imports};
 
-fn import(library: i32, weak: bool, addend: i64, name: &[u8]) -> Import<'_> {
-    Import {
-        library,
-        weak,
-        addend,
-        name,
-    }
+/// Library, whether it is weak, addend and name of an import.
+type Told<'a> = (i32, bool, i64, &'a [u8]);
+
+fn import(library: i32, weak: bool, addend: i64, name: &[u8]) -> Told<'_> {
+    (library, weak, addend, name)
 }
 
-fn imports(fixups: &[u8]) -> Result<Vec<Import<'_>>, Refusal> {
-    Imports::new(fixups)?.collect()
+fn told(import: Import<'_>) -> Told<'_> {
+    (import.library, import.weak, import.addend, import.name)
+}
+
+/// What the walk says next.
+fn next<'a>(walk: &mut Imports<'a>) -> Option<Result<Told<'a>, Error>> {
+    walk.next().map(|next| next.map(told))
+}
+
+fn imports(fixups: &[u8]) -> Result<Vec<Told<'_>>, Error> {
+    Imports::new(fixups)?.map(|next| next.map(told)).collect()
 }
 
 #[test]
@@ -25,7 +32,7 @@ fn imports_of_format_1() {
     let found = imports(&fixups).expect("imports");
     assert_eq!(found, expected);
     // The names are parts of the bytes.
-    assert_eq!(found[1].name.as_ptr(), fixups[80..].as_ptr());
+    assert_eq!(found[1].3.as_ptr(), fixups[80..].as_ptr());
 }
 
 #[test]
@@ -58,8 +65,11 @@ fn an_unknown_import_format_is_refused_at_the_first_import() {
         assert_eq!(imports(&none), Ok(vec![]));
         let one = with_imports(format, 1, &u64s(&[0, 0]), b"a\0");
         let mut walk = Imports::new(&one).expect("a start");
-        assert_eq!(walk.next(), Some(Err(Refusal::UnsupportedFormat)));
-        assert_eq!(walk.next(), None);
+        assert_eq!(
+            next(&mut walk),
+            Some(Err(Refusal::UnsupportedFormat.into()))
+        );
+        assert_eq!(next(&mut walk), None);
     }
 }
 
@@ -69,14 +79,14 @@ fn the_import_start_tests_in_order() {
     // fault is taken away after it was refused.
     let mut bytes = u32s(&[1, 0, 29, 29, 0, 1, 1]);
     let start = |bytes: &[u8]| Imports::new(bytes).err();
-    assert_eq!(start(&bytes[..27]), Some(Refusal::FaultyChains));
-    assert_eq!(start(&bytes), Some(Refusal::UnknownVersion));
+    assert_eq!(start(&bytes[..27]), Some(Refusal::FaultyChains.into()));
+    assert_eq!(start(&bytes), Some(Refusal::UnknownVersion.into()));
     bytes[0] = 0;
-    assert_eq!(start(&bytes), Some(Refusal::UnsupportedFormat));
+    assert_eq!(start(&bytes), Some(Refusal::UnsupportedFormat.into()));
     bytes[24] = 0;
-    assert_eq!(start(&bytes), Some(Refusal::FaultyImport));
+    assert_eq!(start(&bytes), Some(Refusal::FaultyImport.into()));
     bytes[8] = 28;
-    assert_eq!(start(&bytes), Some(Refusal::FaultyImport));
+    assert_eq!(start(&bytes), Some(Refusal::FaultyImport.into()));
     bytes[12] = 28;
     assert_eq!(start(&bytes), None);
 }
@@ -84,7 +94,7 @@ fn the_import_start_tests_in_order() {
 #[test]
 fn records_and_names_lie_in_the_bytes() {
     // Of one import of format 1, its record cut; its name beyond the symbols; its name without a NUL.
-    let refused = Err(Refusal::FaultyImport);
+    let refused = Err(Refusal::FaultyImport.into());
     assert_eq!(imports(&with_imports(1, 1, &[0, 0, 0], b"")), refused);
     let records = u32s(&[3 << 9]);
     assert_eq!(imports(&with_imports(1, 1, &records, b"a\0")), refused);
@@ -98,9 +108,9 @@ fn records_and_names_lie_in_the_bytes() {
 fn an_import_walk_is_paused() {
     let fixups = sample();
     let mut walk = Imports::new(&fixups).expect("a start");
-    assert_eq!(walk.next(), Some(Ok(import(1, false, 0, b"_a"))));
+    assert_eq!(next(&mut walk), Some(Ok(import(1, false, 0, b"_a"))));
     let mut again = Imports::from_state(&fixups, walk.into_state());
-    assert_eq!(again.next(), Some(Ok(import(-2, true, 0, b"_b"))));
-    assert_eq!(again.next(), None);
-    assert_eq!(again.next(), None);
+    assert_eq!(next(&mut again), Some(Ok(import(-2, true, 0, b"_b"))));
+    assert_eq!(next(&mut again), None);
+    assert_eq!(next(&mut again), None);
 }

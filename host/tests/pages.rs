@@ -2,17 +2,27 @@
 
 mod common;
 
-use brinetrellis::{Fixup, Fixups, Patch, Refusal, Segment, Segments};
+use brinetrellis::{Error, Fixup, Fixups, Patch, Refusal, Segment, Segments};
 use common::{contents, one_segment, sample, u32s, u64s};
 
-fn rebase(place: u64, target: u64) -> Fixup {
-    let patch = Patch::Rebase { target };
-    Fixup { place, patch }
+/// The place of a fixup, and what is put there.
+type Told = (u64, Patch);
+
+fn rebase(place: u64, target: u64) -> Told {
+    (place, Patch::Rebase { target })
 }
 
-fn bind(place: u64, ordinal: u64, addend: u64) -> Fixup {
-    let patch = Patch::Bind { ordinal, addend };
-    Fixup { place, patch }
+fn bind(place: u64, ordinal: u64, addend: u64) -> Told {
+    (place, Patch::Bind { ordinal, addend })
+}
+
+fn told(fixup: Fixup) -> Told {
+    (fixup.place, fixup.patch)
+}
+
+/// What the walk says next.
+fn next(walk: &mut Fixups<'_>) -> Option<Result<Told, Error>> {
+    walk.next().map(|next| next.map(told))
 }
 
 /// The first segment.
@@ -26,8 +36,9 @@ fn walk<'a>(fixups: &'a [u8], base: u64, contents: &'a [u8]) -> Fixups<'a> {
     Fixups::new(fixups, &segment(fixups), base, contents).expect("a start")
 }
 
-fn all(fixups: &[u8], base: u64, contents: &[u8]) -> Result<Vec<Fixup>, Refusal> {
-    walk(fixups, base, contents).collect()
+fn all(fixups: &[u8], base: u64, contents: &[u8]) -> Result<Vec<Told>, Error> {
+    let fixups = walk(fixups, base, contents);
+    fixups.map(|next| next.map(told)).collect()
 }
 
 #[test]
@@ -115,19 +126,19 @@ fn a_page_with_a_list_of_chains() {
 #[test]
 fn indexes_lie_in_the_starts_list() {
     // Two pages and one start; a list at index 1 of one start; a list whose last chain is missing.
-    let beyond = Some(Err(Refusal::BeyondStarts));
+    let beyond = Some(Err(Refusal::BeyondStarts.into()));
     let bytes = [0; 16];
     let fixups = one_segment(6, 2, &[0]);
     let mut pages = walk(&fixups, 0, &bytes);
-    assert_eq!(pages.next(), Some(Ok(rebase(0, 0))));
-    assert_eq!(pages.next(), beyond);
-    assert_eq!(pages.next(), None);
+    assert_eq!(next(&mut pages), Some(Ok(rebase(0, 0))));
+    assert_eq!(next(&mut pages), beyond);
+    assert_eq!(next(&mut pages), None);
     let fixups = one_segment(6, 1, &[0x8001]);
-    assert_eq!(walk(&fixups, 0, &bytes).next(), beyond);
+    assert_eq!(next(&mut walk(&fixups, 0, &bytes)), beyond);
     let fixups = one_segment(6, 1, &[0x8001, 8]);
     let mut pages = walk(&fixups, 0, &bytes);
-    assert_eq!(pages.next(), Some(Ok(rebase(8, 0))));
-    assert_eq!(pages.next(), beyond);
+    assert_eq!(next(&mut pages), Some(Ok(rebase(8, 0))));
+    assert_eq!(next(&mut pages), beyond);
 }
 
 #[test]
@@ -138,7 +149,7 @@ fn pointers_lie_in_the_segment() {
         let bytes = vec![0; 8 + width];
         assert_eq!(all(&fixups, 0, &bytes), Ok(vec![rebase(8, 0)]));
         let cut = all(&fixups, 0, &bytes[1..]);
-        assert_eq!(cut, Err(Refusal::PointerOutside), "format {format}");
+        assert_eq!(cut, Err(Refusal::PointerOutside.into()), "format {format}");
     }
 }
 
@@ -147,7 +158,11 @@ fn other_pointer_formats_are_refused_at_the_start() {
     for format in [0, 1, 4, 5, 7, 12, 0xffff] {
         let fixups = one_segment(format, 0, &[]);
         let start = Fixups::new(&fixups, &segment(&fixups), 0, &[]);
-        assert_eq!(start.err(), Some(Refusal::UnsupportedFormat), "{format}");
+        assert_eq!(
+            start.err(),
+            Some(Refusal::UnsupportedFormat.into()),
+            "{format}"
+        );
     }
 }
 
@@ -156,12 +171,10 @@ fn a_segment_of_other_bytes_is_out_of_range() {
     // The list of starts must lie whole in the bytes, and that is tested before the format.
     let fixups = one_segment(2, 1, &[0]);
     for format in [2, 7] {
-        let known = Segment {
-            format,
-            ..segment(&fixups)
-        };
+        let mut known = segment(&fixups);
+        known.format = format;
         let start = Fixups::new(&fixups[..59], &known, 0, &[]);
-        assert_eq!(start.err(), Some(Refusal::StateOutOfRange));
+        assert_eq!(start.err(), Some(Refusal::StateOutOfRange.into()));
     }
 }
 
@@ -169,9 +182,9 @@ fn a_segment_of_other_bytes_is_out_of_range() {
 fn a_page_walk_is_paused_within_a_chain() {
     let (fixups, bytes) = (sample(), contents());
     let mut pages = walk(&fixups, 0x1000, &bytes);
-    assert_eq!(pages.next(), Some(Ok(rebase(8, 0x56 << 56 | 0x234))));
+    assert_eq!(next(&mut pages), Some(Ok(rebase(8, 0x56 << 56 | 0x234))));
     let mut again = Fixups::from_state(&fixups, &bytes, pages.into_state());
-    assert_eq!(again.next(), Some(Ok(bind(16, 1, 7))));
-    assert_eq!(again.next(), None);
-    assert_eq!(again.next(), None);
+    assert_eq!(next(&mut again), Some(Ok(bind(16, 1, 7))));
+    assert_eq!(next(&mut again), None);
+    assert_eq!(next(&mut again), None);
 }

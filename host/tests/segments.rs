@@ -21,19 +21,17 @@ fn the_sample_is_as_its_comment_says() {
 #[test]
 fn a_segment_with_offset_0_is_skipped() {
     // See `sample` for the numbers: the record is at 44, its starts at 44 + 22.
-    let second = Segment {
-        index: 1,
-        page_size: 0x1000,
-        format: 2,
-        offset: 0x4000,
-        limit: 0,
-        pages: 1,
-        place: 66,
-        count: 1,
-    };
     let fixups = sample();
     let mut walk = Segments::new(&fixups).expect("a start");
-    assert_eq!(walk.next(), Some(Ok(second)));
+    let second = walk.next().expect("a segment").expect("a segment");
+    assert_eq!(second.index, 1);
+    assert_eq!(second.page_size, 0x1000);
+    assert_eq!(second.format, 2);
+    assert_eq!(second.offset, 0x4000);
+    assert_eq!(second.limit, 0);
+    assert_eq!(second.pages, 1);
+    assert_eq!(second.position, 66);
+    assert_eq!(second.count, 1);
     assert_eq!(walk.next(), None);
     assert_eq!(walk.next(), None);
 }
@@ -44,7 +42,7 @@ fn an_odd_byte_of_a_record_is_no_start() {
     let mut fixups = one_segment(6, 0, &[1, 2, 3]);
     fixups[36] = 27;
     assert_eq!(segment(&fixups).count, 2);
-    assert_eq!(segment(&fixups).place, 58);
+    assert_eq!(segment(&fixups).position, 58);
 }
 
 #[test]
@@ -56,8 +54,8 @@ fn after_a_faulty_record_the_next_segment_comes() {
     let mut fixups = [header, u32s(&[3, 16, 40, 64]), records].concat();
     fixups[68] = 21;
     let mut walk = Segments::new(&fixups).expect("a start");
-    assert_eq!(walk.next().map(|s| s.map(|s| s.place)), Some(Ok(66)));
-    assert_eq!(walk.next(), Some(Err(Refusal::FaultyChains)));
+    assert_eq!(walk.next().map(|s| s.map(|s| s.position)), Some(Ok(66)));
+    assert_eq!(walk.next(), Some(Err(Refusal::FaultyChains.into())));
     let mut again = Segments::from_state(&fixups, walk.into_state());
     assert_eq!(again.next().map(|s| s.map(|s| s.index)), Some(Ok(2)));
     assert_eq!(again.next(), None);
@@ -66,7 +64,7 @@ fn after_a_faulty_record_the_next_segment_comes() {
 #[test]
 fn a_record_lies_in_the_bytes_with_its_starts() {
     let fixups = one_segment(2, 1, &[0]);
-    let refused = Some(Err(Refusal::FaultyChains));
+    let refused = Some(Err(Refusal::FaultyChains.into()));
     for length in 36..fixups.len() {
         let mut walk = Segments::new(&fixups[..length]).expect("a start");
         assert_eq!(walk.next(), refused, "{length} bytes");
@@ -79,6 +77,10 @@ fn header_and_starts_lie_in_the_bytes() {
     let fixups = one_segment(2, 1, &[0]);
     for length in 0..36 {
         let start = Segments::new(&fixups[..length]);
-        assert_eq!(start.err(), Some(Refusal::FaultyChains), "{length} bytes");
+        assert_eq!(
+            start.err(),
+            Some(Refusal::FaultyChains.into()),
+            "{length} bytes"
+        );
     }
 }

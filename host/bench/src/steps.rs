@@ -19,9 +19,14 @@ fn sum(mut call: impl FnMut() -> (u64, u64)) -> u64 {
     }
 }
 
+/// A start, or the one segment: nothing is timed that is refused.
+fn answered(answer: u64) {
+    assert_eq!(answer, answer::ITEM);
+}
+
 pub fn rebase(stream: &[u8], size: u8) -> u64 {
     let (mut state, mut item) = ([0; record::REBASE_STATE], [0; record::REBASE_ITEM]);
-    raw::rebase_start(size.into(), &mut state);
+    answered(raw::rebase_start(size.into(), &mut state));
     sum(|| {
         let answer = raw::rebase_step(stream, &mut state, &mut item);
         (answer, word(&item, 1))
@@ -30,7 +35,7 @@ pub fn rebase(stream: &[u8], size: u8) -> u64 {
 
 pub fn bind(stream: &[u8], size: u8) -> u64 {
     let (mut state, mut item) = ([0; record::BIND_STATE], [0; record::BIND_ITEM]);
-    raw::bind_plain(size.into(), &mut state);
+    answered(raw::bind_plain(size.into(), &mut state));
     sum(|| {
         let answer = raw::bind_step(stream, &mut state, &mut item);
         (answer, word(&item, 1))
@@ -39,7 +44,7 @@ pub fn bind(stream: &[u8], size: u8) -> u64 {
 
 pub fn trie(trie: &[u8], name: &mut [u8]) -> u64 {
     let (mut state, mut item) = ([0; record::TRIE_STATE], [0; record::TRIE_ITEM]);
-    raw::trie_start(&mut state);
+    answered(raw::trie_start(&mut state));
     sum(|| {
         let answer = raw::trie_step(trie, &mut state, name, u64::MAX, &mut item);
         (answer, word(&item, 1))
@@ -48,10 +53,10 @@ pub fn trie(trie: &[u8], name: &mut [u8]) -> u64 {
 
 pub fn pages(fixups: &[u8], contents: &[u8], base: u64) -> u64 {
     let (mut state, mut segment) = ([0; record::SEGMENT_STATE], [0; record::SEGMENT_ITEM]);
-    raw::segment_start(fixups, &mut state);
-    raw::segment_step(fixups, &mut state, &mut segment);
+    answered(raw::segment_start(fixups, &mut state));
+    answered(raw::segment_step(fixups, &mut state, &mut segment));
     let (mut state, mut item) = ([0; record::PAGE_STATE], [0; record::PAGE_ITEM]);
-    raw::page_start(fixups, &segment, base, &mut state);
+    answered(raw::page_start(fixups, &segment, base, &mut state));
     sum(|| {
         let answer = raw::page_step(fixups, contents, &mut state, &mut item);
         (answer, word(&item, 0))

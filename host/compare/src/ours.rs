@@ -32,9 +32,9 @@ pub fn set_word(record: &mut [u8], index: usize, word: u64) {
 /// The part of some bytes that the reader's `name` tells.
 fn part(bytes: &[u8], place: u64, length: u64) -> &[u8] {
     let mut told = [0xa5; 16];
-    raw::name(bytes, place, length, &mut told);
+    let answer = raw::name(bytes, place, length, &mut told);
     let told = words(&told);
-    let rest = bytes.get(told[0] as usize..);
+    let rest = bytes.get(told[0] as usize..).filter(|_| answer == 0);
     rest.and_then(|rest| rest.get(..told[1] as usize))
         .unwrap_or(b"(no such name)")
 }
