@@ -1,10 +1,10 @@
-//! The script `dump`: its exit status, and what it takes to run the program.
+//! The script `dump`: its exit status, standard input, and what it takes to run the program.
 
 mod common;
 
-use common::lines::S1_LINES;
-use common::program::{dump, start, Folder, Said, DUMP};
-use common::{S1, S4};
+use common::lines::{refused, S1_LINES};
+use common::program::{dump, dump_with, listed, start, Folder, Said, DUMP};
+use common::{contents, sample, S1, S4};
 use std::env;
 use std::fs::{self, File};
 use std::io::{BufRead, BufReader};
@@ -87,6 +87,46 @@ fn what_cannot_be_written_is_not_good() {
     assert_ne!(said.err, "");
 }
 
+// ---- standard input
+
+#[test]
+fn a_file_may_be_standard_input() {
+    let text = [S1_LINES, "end  items 3\n"].concat();
+    let said = dump_with("rebase 8 -", &[], S1);
+    assert_eq!((said.out, said.err, said.status), (text, String::new(), 0));
+    let said = dump_with("preflight rebase 8 - 0 0 39", &[], S1);
+    assert_eq!((said.out, said.status), (refused(20, 3, 2), 1));
+    let said = dump_with("rebase 8 -", &[], b"");
+    assert_eq!((&said.out[..], said.status), ("end  items 0\n", 0));
+}
+
+#[test]
+fn either_file_of_a_command_may_be_standard_input_but_not_both() {
+    let (fixups, segment) = (sample(), contents());
+    let text = listed("fixups FILE 1 FILE 0", &[&fixups, &segment]);
+    let said = dump_with("fixups - 1 FILE 0", &[&segment], &fixups);
+    assert_eq!((&said.out, said.status), (&text, 0));
+    let said = dump_with("fixups FILE 1 - 0", &[&fixups], &segment);
+    assert_eq!((&said.out, said.status), (&text, 0));
+    let said = dump("fixups - 1 - 0", &[]);
+    assert_eq!((&said.out[..], said.status), ("", 2));
+    let lines: Vec<&str> = said.err.lines().collect();
+    let usage = "usage: dump fixups FILE INDEX SEGMENT_FILE BASE";
+    assert_eq!(lines, ["dump: only one FILE may be -", usage]);
+}
+
+#[test]
+fn commands_read_standard_input_alike() {
+    let fixups = sample();
+    for command in [
+        "exports", "segments", "imports", "bind 8", "weak 8", "lazy 8",
+    ] {
+        let said = dump_with(&format!("{command} -"), &[], &fixups);
+        let text = dump(&format!("{command} FILE"), &[&fixups]);
+        assert_eq!(said, text, "{command}");
+    }
+}
+
 // ---- the kit
 
 /// The first program of a name on the PATH.
@@ -104,7 +144,7 @@ fn without_the_kit(folder: &Folder) -> Said {
     for tool in ["bash", "dirname", "readlink", "uname", "awk"] {
         symlink(found(tool), tools.join(tool)).expect("a link");
     }
-    let mut command = start(&script, &[]);
+    let mut command = start(&script, &["--version".into()]);
     command.env("PATH", &tools).env_remove("RATTLE_HOME");
     Said::by(command.spawn().expect("a run"))
 }
@@ -117,5 +157,24 @@ fn where_the_kit_is_missing_that_is_said() {
     assert!(line.starts_with("dump: ") && !line.contains('\n'), "{line}");
     for word in ["not built", "kit", "missing", "PATH"] {
         assert!(line.contains(word), "{line}");
+    }
+}
+
+#[test]
+fn a_program_that_is_built_is_run_where_its_processor_is_there() {
+    let folder = Folder::new();
+    let bin = folder.0.join("target/bin");
+    fs::create_dir_all(&bin).expect("a folder");
+    let program = Path::new(DUMP).with_file_name("target/bin/dump");
+    fs::copy(program, bin.join("dump")).expect("a copy of the program");
+    let said = without_the_kit(&folder);
+    if said.status == 0 {
+        assert!(said.out.starts_with("dump 4.0.0\n"), "{}", said.out);
+    } else {
+        // On another processor the kit has the emulator.
+        let line = said.err.strip_suffix('\n').expect("a line");
+        assert!(line.starts_with("dump: ") && !line.contains('\n'), "{line}");
+        assert!(line.contains("emulator") && line.contains("kit"), "{line}");
+        assert_eq!((&said.out[..], said.status), ("", 2));
     }
 }

@@ -4,8 +4,9 @@ use crate::closing::List;
 use crate::closing::close;
 use crate::closing::listed;
 use crate::file::Loaded;
-use crate::file::load;
+use crate::file::load_stream;
 use crate::line::Out;
+use crate::usage;
 use crate::words::Words;
 use chains::Segment;
 use chains::SegmentStart;
@@ -19,10 +20,10 @@ use numbers::parts::part;
 use std::num::wrapping_sub_u64;
 
 pub(crate) fn list_segments(w: Words, room: &mut [u8]) {
-    if !w.are(2, b"segments FILE") {
+    if !w.are(2, usage::SEGMENTS) {
         return;
     }
-    let Loaded::Bytes(n) = load(w.at[1], room, 0) else {
+    let Loaded::Bytes(n) = load_stream(w.at[1], w.raw, room) else {
         return;
     };
     let mut lines = io::buffer();
@@ -83,10 +84,10 @@ fn started(lines: &mut [u8], out: Out, x: Segment) -> Out {
 }
 
 pub(crate) fn list_imports(w: Words, room: &mut [u8]) {
-    if !w.are(2, b"imports FILE") {
+    if !w.are(2, usage::IMPORTS) {
         return;
     }
-    let Loaded::Bytes(n) = load(w.at[1], room, 0) else {
+    let Loaded::Bytes(n) = load_stream(w.at[1], w.raw, room) else {
         return;
     };
     let mut lines = io::buffer();

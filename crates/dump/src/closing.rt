@@ -1,5 +1,6 @@
 // The closing line: how a list ends.
 use crate::line::Out;
+use crate::line::trimmed;
 use numbers::parts::part;
 use refusal::Refusal;
 
@@ -125,13 +126,4 @@ fn row_of(number: u8) -> usize {
 fn titled(lines: &mut [u8], out: Out, name: &[u8; 19]) -> Out {
     let s = &name[..];
     out.quoted(lines, b"  name ", part(s, 0, trimmed(s)))
-}
-
-// The length but for the blanks at the end.
-fn trimmed(s: &[u8]) -> usize {
-    let mut n = s.len();
-    while 0 < n && s[n - 1] == b' ' {
-        n -= 1;
-    }
-    n
 }

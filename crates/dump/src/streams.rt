@@ -4,10 +4,11 @@ use crate::closing::List;
 use crate::closing::close;
 use crate::closing::listed;
 use crate::file::Loaded;
-use crate::file::load;
+use crate::file::load_stream;
 use crate::flight;
 use crate::flight::Fault;
 use crate::line::Out;
+use crate::usage;
 use crate::words;
 use crate::words::PointerSize;
 use crate::words::Words;
@@ -44,18 +45,18 @@ pub(crate) fn kind_of(i: usize) -> Kind {
     }
 }
 
-pub(crate) fn list(kind: Kind, w: Words, room: &mut [u8]) {
-    if !w.are(3, b"rebase|bind|weak|lazy POINTER_SIZE FILE") {
+pub(crate) fn list(w: Words, room: &mut [u8]) {
+    if !w.are(3, usage::STREAM) {
         return;
     }
-    let PointerSize::Bytes(size) = words::pointer_size(w.at[1]) else {
+    let PointerSize::Bytes(size) = words::pointer_size(w.at[1], usage::STREAM) else {
         return;
     };
-    let Loaded::Bytes(n) = load(w.at[2], room, 0) else {
+    let Loaded::Bytes(n) = load_stream(w.at[2], w.raw, room) else {
         return;
     };
     let mut lines = io::buffer();
-    let list = walk(kind, size, part(room, 0, n), w.max, &mut lines);
+    let list = walk(kind_of(w.at[0]), size, part(room, 0, n), w.max, &mut lines);
     close(&mut lines, list);
 }
 
