@@ -91,7 +91,7 @@ fn each_rebase(start: RebaseWalk, s: &[u8], max: u64, fault: Fault, lines: &mut 
                 out = rebase(lines, out, x);
                 w = next;
             }
-            RebaseStep::End(_) => return listed(out, count, Ending::End),
+            RebaseStep::End(stood) => return listed(out, count, ended(stood.cursor.at, s)),
             RebaseStep::Refused(stood, e) => {
                 let place = fault.place(e, stood.cursor.at);
                 return listed(out, count, Ending::Refused(e, place, count));
@@ -99,6 +99,14 @@ fn each_rebase(start: RebaseWalk, s: &[u8], max: u64, fault: Fault, lines: &mut 
         }
     }
     listed(out, count, Ending::Cut)
+}
+
+// A Done ends a stream that is not lazy, wherever it stands.
+fn ended(at: usize, s: &[u8]) -> Ending {
+    if at < s.len() {
+        return Ending::Done(at as u64, s.len() as u64);
+    }
+    Ending::End
 }
 
 fn rebase(lines: &mut [u8], out: Out, x: Rebase) -> Out {
@@ -127,7 +135,7 @@ fn each_bind(start: BindWalk, s: &[u8], max: u64, fault: Fault, lines: &mut [u8]
                 out = bind(lines, out, x, s);
                 w = next;
             }
-            BindStep::End(_) => return listed(out, count, Ending::End),
+            BindStep::End(stood) => return listed(out, count, ended(stood.cursor.at, s)),
             BindStep::Refused(stood, e) => {
                 let place = fault.place(e, stood.cursor.at);
                 return listed(out, count, Ending::Refused(e, place, count));
