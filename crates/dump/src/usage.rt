@@ -71,7 +71,7 @@ fn used(fd: i32, row: usize) {
 fn more(fd: i32) {
     io::write_all(
         fd,
-        b"A FILE has the bare bytes of a stream; one FILE of a command may be -, which is standard input.\n",
+        b"A FILE has the bare bytes of a stream, a trie, chained fixups or a segment. One FILE of a command may be -, which is standard input.\n",
     );
     io::write_all(
         fd,
