@@ -30,7 +30,8 @@ fn s3_lists_nothing() {
 
 #[test]
 fn s4_is_refused() {
-    let text = "refused  number 5  place 0  index 0  name \"no segment\"\n";
+    let text =
+        "refused  number 5  place 0  index 0  name \"place before any segment was chosen\"\n";
     assert_eq!(listed("rebase 8 FILE", &[S4]), text);
 }
 
@@ -38,7 +39,7 @@ fn s4_is_refused() {
 fn p1_passes_and_is_refused_with_a_byte_less() {
     let text = "pass  operations 4\n";
     assert_eq!(listed("preflight rebase 8 FILE 0 0 40", &[S1]), text);
-    let text = "refused  number 20  place 3  index 2  name \"place outside\"\n";
+    let text = "refused  number 20  place 3  index 2  name \"place outside its segment\"\n";
     assert_eq!(listed("preflight rebase 8 FILE 0 0 39", &[S1]), text);
 }
 
@@ -48,7 +49,7 @@ fn p2_passes_and_is_refused_with_a_place_more() {
     let command = "preflight rebase 8 FILE 0 0 24";
     assert_eq!(listed(command, &[&stream]), "pass  operations 3\n");
     stream[4] = 0x04;
-    let text = "refused  number 20  place 3  index 3  name \"place outside\"\n";
+    let text = "refused  number 20  place 3  index 3  name \"place outside its segment\"\n";
     assert_eq!(listed(command, &[&stream]), text);
 }
 
@@ -60,7 +61,7 @@ fn p3_passes_and_is_refused_with_a_place_more() {
     let command = "preflight rebase 8 FILE 0 0 4611686018427387904";
     assert_eq!(listed(command, &[&stream]), "pass  operations 3\n");
     stream[4] = 0xfa;
-    let text = "refused  number 20  place 3  index 4611686018427387897  name \"place outside\"\n";
+    let text = "refused  number 20  place 3  index 4611686018427387897  name \"place outside its segment\"\n";
     assert_eq!(listed(command, &[&stream]), text);
 }
 
@@ -102,15 +103,51 @@ end  items 2
 
 #[test]
 fn done_ends_the_other_streams() {
-    // One more bind behind Done.
+    // One more bind behind Done, the tenth byte.
     let stream = [S2, b"\x00\x90"].concat();
-    let text = [S2_LINE, "end  items 1\n"].concat();
+    let text = [S2_LINE, "end  items 1  read 10  of 11\n"].concat();
     for kind in ["bind", "weak"] {
         assert_eq!(listed(&format!("{kind} 8 FILE"), &[&stream]), text);
     }
+    // S1, of five bytes, and three more places.
     let stream = b"\x11\x22\x10\x53\x00\x53";
-    let text = [S1_LINES, "end  items 3\n"].concat();
+    let text = [S1_LINES, "end  items 3  read 5  of 6\n"].concat();
     assert_eq!(listed("rebase 8 FILE", &[stream]), text);
+}
+
+#[test]
+fn bytes_behind_done_are_told_even_if_they_are_zeros() {
+    let stream = [S1, &[0; 3]].concat();
+    let text = [S1_LINES, &lines::done(3, 5, 8)].concat();
+    assert_eq!(listed("rebase 8 FILE", &[&stream]), text);
+    assert_eq!(listed("rebase 8 FILE", &[&[0; 2]]), lines::done(0, 1, 2));
+}
+
+#[test]
+fn where_all_bytes_are_read_they_are_not_told() {
+    // Done is the last byte, or there is none; a lazy stream reads on behind it.
+    for (kind, stream) in [
+        ("rebase", &b"\x00"[..]),
+        ("bind", b"\x00"),
+        ("weak", b"\x11"),
+        ("lazy", b"\x00\x00\x00"),
+        ("rebase", b""),
+    ] {
+        let command = format!("{kind} 8 FILE");
+        assert_eq!(listed(&command, &[stream]), "end  items 0\n", "{command}");
+    }
+}
+
+#[test]
+fn a_list_that_is_cut_or_refused_tells_no_bytes() {
+    // S1 with a byte more, cut behind its first place; and 90, which is no operation, before Done.
+    let stream = [S1, &[0]].concat();
+    let cut = listed("rebase 8 FILE --max 1", &[&stream]);
+    assert!(cut.ends_with("\ncut  items 1\n"), "{cut}");
+    assert_eq!(
+        listed("rebase 8 FILE", &[b"\x90\x00\x00"]),
+        refused(2, 0, 0)
+    );
 }
 
 #[test]
@@ -322,6 +359,6 @@ end  items 1
     assert_eq!(listed("imports FILE", &[&fixups]), text);
     assert_eq!(
         listed("rebase 8 FILE", &[&vec![0; 4 << 20]]),
-        "end  items 0\n"
+        "end  items 0  read 1  of 4194304\n"
     );
 }

@@ -2,7 +2,7 @@
 
 mod common;
 
-use common::lines::{refused, FIXUPS, S1_LINES, S2_LINE};
+use common::lines::{refused, refused_records, refused_segment, FIXUPS, S1_LINES, S2_LINE};
 use common::program::listed;
 use common::{
     chain, contents, long_name, one_segment, record, sample, u32s, with_imports, with_starts, S1,
@@ -167,14 +167,57 @@ fn third_is_faulty() -> Vec<u8> {
     with_starts(&[20, 0, 1000, 0], &record(2, 1, &[8]))
 }
 
-#[test]
-fn a_segment_is_refused_by_its_index_and_the_place_of_the_starts() {
-    let first = "\
+/// The first of its segments.
+const FIRST: &str = "\
 segment       0  offset 0x0000000000004000  format     2  page 0x1000  pages     1  \
 limit 0x00000000  starts       1  place      70
 ";
-    let text = first.to_string() + &refused(9, 28, 2);
-    assert_eq!(listed("segments FILE", &[&third_is_faulty()]), text);
+
+#[test]
+fn a_refused_segment_has_a_line_and_the_last_line_tells_of_it() {
+    let text = "\
+segment       2  refused  number 9  name \"chained fixups do not fit their bytes\"
+refused  number 9  place 28  index 2  records 1  name \"chained fixups do not fit their bytes\"
+";
+    assert_eq!(
+        listed("segments FILE", &[&third_is_faulty()]),
+        FIRST.to_string() + text
+    );
+}
+
+#[test]
+fn behind_a_refused_segment_the_others_are_listed() {
+    // Of six segments the first and the fifth would have their records beyond the data, the others but
+    // the fourth share one, at 28 + 28, whose starts are at 78.
+    let fixups = with_starts(&[1000, 28, 28, 0, 1000, 28], &record(2, 1, &[8]));
+    let listed_as = |index: usize| {
+        let index = format!("segment {index:>7}  ");
+        FIRST
+            .replace("segment       0  ", &index)
+            .replace("70", "78")
+    };
+    let text = [
+        refused_segment(0),
+        listed_as(1),
+        listed_as(2),
+        refused_segment(4),
+        listed_as(5),
+        refused_records(28, 0, 2),
+    ];
+    assert_eq!(listed("segments FILE", &[&fixups]), text.concat());
+}
+
+#[test]
+fn a_cut_list_of_segments_tells_of_those_that_are_refused() {
+    // The second of three records would be beyond the data.
+    let fixups = with_starts(&[16, 1000, 16], &record(2, 1, &[8]));
+    let first = FIRST.replace("70", "66");
+    let cut = |max| listed(&format!("segments FILE --max {max}"), &[&fixups]);
+    assert_eq!(cut(0), "cut  items 0\n");
+    assert_eq!(cut(1), first.clone() + "cut  items 1\n");
+    let text = first + &refused_segment(1) + &refused_records(28, 1, 1);
+    assert_eq!(cut(2), text);
+    assert_eq!(cut(3), listed("segments FILE", &[&fixups]));
 }
 
 #[test]

@@ -3,9 +3,11 @@ use crate::closing::Ending;
 use crate::closing::List;
 use crate::closing::close;
 use crate::closing::listed;
+use crate::closing::name;
 use crate::file::Loaded;
-use crate::file::load;
+use crate::file::load_stream;
 use crate::line::Out;
+use crate::usage;
 use crate::words::Words;
 use chains::Segment;
 use chains::SegmentStart;
@@ -16,13 +18,23 @@ use imports::ImportStart;
 use imports::ImportStep;
 use imports::ImportWalk;
 use numbers::parts::part;
+use refusal::Refusal;
+use std::num::wrapping_add_u64;
 use std::num::wrapping_sub_u64;
 
+// How many records are refused; and of the first of them the refusal, the place of the starts and the segment's index.
+struct Faults {
+    count: u64,
+    refusal: Refusal,
+    place: u64,
+    index: u64,
+}
+
 pub(crate) fn list_segments(w: Words, room: &mut [u8]) {
-    if !w.are(2, b"segments FILE") {
+    if !w.are(2, usage::SEGMENTS) {
         return;
     }
-    let Loaded::Bytes(n) = load(w.at[1], room, 0) else {
+    let Loaded::Bytes(n) = load_stream(w.at[1], w.raw, room) else {
         return;
     };
     let mut lines = io::buffer();
@@ -37,29 +49,85 @@ fn segments(s: &[u8], max: u64, lines: &mut [u8]) -> List {
     }
 }
 
-// The index of a refusal is that of the segment; its place is where the starts are.
+// The walk goes on behind a record that is refused, and the record is listed as such.
 fn each_segment(start: SegmentWalk, s: &[u8], max: u64, lines: &mut [u8]) -> List {
     let mut w = start;
     let mut out = Out::start();
     let mut count: u64 = 0;
+    let mut faults = Faults::none();
     while !out.broken {
         match w.step(s) {
             SegmentStep::Item(next, x) => {
                 if count == max {
-                    return listed(out, count, Ending::Cut);
+                    return listed(out, count, faults.or(Ending::Cut));
                 }
                 count += 1;
                 out = segment(lines, out, x);
                 w = next;
             }
-            SegmentStep::End(_) => return listed(out, count, Ending::End),
+            SegmentStep::End(_) => return listed(out, count, faults.or(Ending::End)),
             SegmentStep::Refused(next, e) => {
-                let index = wrapping_sub_u64(next.index, 1);
-                return listed(out, count, Ending::Refused(e, next.place as u64, index));
+                if count == max {
+                    return listed(out, count, faults.or(Ending::Cut));
+                }
+                count += 1;
+                faults = faults.and(e, next);
+                out = faulty(lines, out, e, next);
+                w = next;
             }
         }
     }
     listed(out, count, Ending::Cut)
+}
+
+impl Faults {
+    fn none() -> Faults {
+        Faults {
+            count: 0,
+            refusal: Refusal::FaultyChains,
+            place: 0,
+            index: 0,
+        }
+    }
+
+    // One more, behind which the walk stands.
+    fn and(self, e: Refusal, w: SegmentWalk) -> Faults {
+        let first = self.refusal;
+        if self.count == 0 {
+            return Faults {
+                count: 1,
+                refusal: e,
+                place: w.place as u64,
+                index: passed(w),
+            };
+        }
+        Faults {
+            count: wrapping_add_u64(self.count, 1),
+            refusal: first,
+            place: self.place,
+            index: self.index,
+        }
+    }
+
+    // How the list ends, which would end so without any fault.
+    fn or(self, ending: Ending) -> Ending {
+        let first = self.refusal;
+        if self.count == 0 {
+            return ending;
+        }
+        Ending::Records(first, self.place, self.index, self.count)
+    }
+}
+
+// The index of the segment that the walk has passed last.
+fn passed(w: SegmentWalk) -> u64 {
+    wrapping_sub_u64(w.index, 1)
+}
+
+fn faulty(lines: &mut [u8], out: Out, e: Refusal, w: SegmentWalk) -> Out {
+    let out = out.decimal(lines, b"segment ", 7, passed(w));
+    let out = out.decimal(lines, b"  refused  number ", 0, e.number() as u64);
+    name(lines, out, e)
 }
 
 fn segment(lines: &mut [u8], out: Out, x: Segment) -> Out {
@@ -83,10 +151,10 @@ fn started(lines: &mut [u8], out: Out, x: Segment) -> Out {
 }
 
 pub(crate) fn list_imports(w: Words, room: &mut [u8]) {
-    if !w.are(2, b"imports FILE") {
+    if !w.are(2, usage::IMPORTS) {
         return;
     }
-    let Loaded::Bytes(n) = load(w.at[1], room, 0) else {
+    let Loaded::Bytes(n) = load_stream(w.at[1], w.raw, room) else {
         return;
     };
     let mut lines = io::buffer();

@@ -1,5 +1,6 @@
 // The closing line: how a list ends.
 use crate::line::Out;
+use crate::line::trimmed;
 use numbers::parts::part;
 use refusal::Refusal;
 
@@ -31,37 +32,39 @@ const NUMBERS: [u8; ROWS] = [
 ];
 
 // Their names in words, in the same order.
-const NAMES: [[u8; 19]; ROWS] = [
-    *b"pointer size       ",
-    *b"unknown opcode     ",
-    *b"faulty operand     ",
-    *b"ordinal too large  ",
-    *b"no segment         ",
-    *b"no type            ",
-    *b"no library         ",
-    *b"no symbol          ",
-    *b"faulty chains      ",
-    *b"unknown version    ",
-    *b"unsupported format ",
-    *b"beyond starts      ",
-    *b"pointer outside    ",
-    *b"faulty import      ",
-    *b"faulty node        ",
-    *b"child is open      ",
-    *b"too many open nodes",
-    *b"name too long      ",
-    *b"state out of range ",
-    *b"place outside      ",
-    *b"unfit sizes        ",
+const NAMES: [[u8; 56]; ROWS] = [
+    *b"pointer size is neither 4 nor 8                         ",
+    *b"opcode that this reader does not know                   ",
+    *b"operand cut off or malformed                            ",
+    *b"library number too large                                ",
+    *b"place before any segment was chosen                     ",
+    *b"place before any type was chosen                        ",
+    *b"bind before any library was chosen                      ",
+    *b"bind before any symbol was named                        ",
+    *b"chained fixups do not fit their bytes                   ",
+    *b"version of chained fixups that this reader does not know",
+    *b"format that this reader does not know                   ",
+    *b"page or chain beyond the list of starts                 ",
+    *b"chained pointer outside the segment's bytes             ",
+    *b"import does not fit its bytes                           ",
+    *b"trie node or edge malformed                             ",
+    *b"trie node is its own ancestor                           ",
+    *b"too many trie nodes open at once                        ",
+    *b"exported name longer than the room for it               ",
+    *b"walk state that no walk can have                        ",
+    *b"place outside its segment                               ",
+    *b"too many segment sizes, or one too large                ",
 ];
 
-// How a list ends: all is listed; there is more; nothing is listed, and the preflight passes; or a refusal, with its
-// place and index.
+// How a list ends: all is listed; all up to a Done, with so many bytes read of so many; there is more; nothing is
+// listed, and the preflight passes; a refusal, with its place and index; or the same of the first of so many records.
 pub(crate) enum Ending {
     End,
+    Done(u64, u64),
     Cut,
     Pass,
     Refused(Refusal, u64, u64),
+    Records(Refusal, u64, u64, u64),
 }
 
 // A list but for its last line: what waits to be written, the number that the line tells, and its ending.
@@ -80,9 +83,15 @@ pub(crate) fn close(lines: &mut [u8], list: List) {
     let ending = list.ending;
     match ending {
         Ending::End => counted(lines, list.out, b"end  items ", list.count),
+        Ending::Done(read, of) => done(lines, list, read, of),
         Ending::Cut => counted(lines, list.out, b"cut  items ", list.count),
         Ending::Pass => counted(lines, list.out, b"pass  operations ", list.count),
         Ending::Refused(e, place, index) => refused(lines, list.out, e, place, index),
+        Ending::Records(e, place, index, records) => {
+            let out = numbered(lines, list.out, e, place, index);
+            let out = out.decimal(lines, b"  records ", 0, records);
+            name(lines, out, e).finish(lines);
+        }
     }
 }
 
@@ -91,18 +100,29 @@ fn counted(lines: &mut [u8], out: Out, what: &[u8], n: u64) {
     out.byte(lines, b'\n').finish(lines);
 }
 
-fn refused(lines: &mut [u8], out: Out, e: Refusal, place: u64, index: u64) {
-    let out = out.decimal(lines, b"refused  number ", 0, e.number() as u64);
-    let out = out.decimal(lines, b"  place ", 0, place);
-    let out = out.decimal(lines, b"  index ", 0, index);
-    let out = named(lines, out, e.number());
+fn done(lines: &mut [u8], list: List, read: u64, of: u64) {
+    let out = list.out.decimal(lines, b"end  items ", 0, list.count);
+    let out = out.decimal(lines, b"  read ", 0, read);
+    let out = out.decimal(lines, b"  of ", 0, of);
     out.byte(lines, b'\n').finish(lines);
 }
 
-fn named(lines: &mut [u8], out: Out, number: u8) -> Out {
-    let row = row_of(number);
+fn refused(lines: &mut [u8], out: Out, e: Refusal, place: u64, index: u64) {
+    let out = numbered(lines, out, e, place, index);
+    name(lines, out, e).finish(lines);
+}
+
+fn numbered(lines: &mut [u8], out: Out, e: Refusal, place: u64, index: u64) -> Out {
+    let out = out.decimal(lines, b"refused  number ", 0, e.number() as u64);
+    let out = out.decimal(lines, b"  place ", 0, place);
+    out.decimal(lines, b"  index ", 0, index)
+}
+
+// The end of a line: a refusal's name in words.
+pub(crate) fn name(lines: &mut [u8], out: Out, e: Refusal) -> Out {
+    let row = row_of(e.number());
     if ROWS <= row {
-        return out;
+        return out.byte(lines, b'\n');
     }
     let names = NAMES;
     let name = names[row];
@@ -122,16 +142,8 @@ fn row_of(number: u8) -> usize {
     row
 }
 
-fn titled(lines: &mut [u8], out: Out, name: &[u8; 19]) -> Out {
+fn titled(lines: &mut [u8], out: Out, name: &[u8; 56]) -> Out {
     let s = &name[..];
-    out.quoted(lines, b"  name ", part(s, 0, trimmed(s)))
-}
-
-// The length but for the blanks at the end.
-fn trimmed(s: &[u8]) -> usize {
-    let mut n = s.len();
-    while 0 < n && s[n - 1] == b' ' {
-        n -= 1;
-    }
-    n
+    let out = out.quoted(lines, b"  name ", part(s, 0, trimmed(s)));
+    out.byte(lines, b'\n')
 }

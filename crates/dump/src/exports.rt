@@ -4,8 +4,9 @@ use crate::closing::List;
 use crate::closing::close;
 use crate::closing::listed;
 use crate::file::Loaded;
-use crate::file::load;
+use crate::file::load_stream;
 use crate::line::Out;
+use crate::usage;
 use crate::words::Words;
 use nodes::export::Export;
 use nodes::export::ExportData;
@@ -18,10 +19,10 @@ use trie::TrieWalk;
 const NODES: u64 = 0x100_0000;
 
 pub(crate) fn list(w: Words, room: &mut [u8]) {
-    if !w.are(2, b"exports FILE") {
+    if !w.are(2, usage::EXPORTS) {
         return;
     }
-    let Loaded::Bytes(n) = load(w.at[1], room, 0) else {
+    let Loaded::Bytes(n) = load_stream(w.at[1], w.raw, room) else {
         return;
     };
     let mut lines = io::buffer();

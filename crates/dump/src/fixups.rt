@@ -4,7 +4,8 @@ use crate::closing::List;
 use crate::closing::close;
 use crate::closing::listed;
 use crate::file::Loaded;
-use crate::file::load;
+use crate::file::load_segment;
+use crate::file::load_stream;
 use crate::line::Out;
 use crate::usage;
 use crate::words;
@@ -31,19 +32,23 @@ enum Found {
 }
 
 pub(crate) fn list(w: Words, room: &mut [u8]) {
-    if !w.are(5, b"fixups FILE INDEX SEGMENT_FILE BASE") {
+    if !w.are(5, usage::FIXUPS) {
         return;
     }
-    let Numeral::Value(index) = words::number(w.at[2]) else {
+    let Numeral::Value(index) = words::number(w.at[2], b"index", usage::FIXUPS) else {
         return;
     };
-    let Numeral::Value(base) = words::number(w.at[4]) else {
+    let Numeral::Value(base) = words::number(w.at[4], b"base", usage::FIXUPS) else {
         return;
     };
-    let Loaded::Bytes(n) = load(w.at[1], room, 0) else {
+    if words::is(w.at[1], b"-") && words::is(w.at[3], b"-") {
+        usage::wrong(b"only one FILE may be -", usage::FIXUPS);
+        return;
+    }
+    let Loaded::Bytes(n) = load_stream(w.at[1], w.raw, room) else {
         return;
     };
-    let Loaded::Bytes(m) = load(w.at[3], room, n) else {
+    let Loaded::Bytes(m) = load_segment(w.at[3], w.raw, room, n) else {
         return;
     };
     list_of(part(room, 0, n), part(room, n, m), index, base, w);

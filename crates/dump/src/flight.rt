@@ -5,7 +5,7 @@ use crate::closing::List;
 use crate::closing::close;
 use crate::closing::listed;
 use crate::file::Loaded;
-use crate::file::load;
+use crate::file::load_stream;
 use crate::line::Out;
 use crate::streams::Kind;
 use crate::streams::kind_of;
@@ -39,18 +39,18 @@ struct Sizes {
 
 pub(crate) fn judge(w: Words, room: &mut [u8]) {
     if w.count < 4 {
-        usage::of(b"preflight rebase|bind|weak|lazy POINTER_SIZE FILE [SIZE...]");
+        usage::wrong(b"too few words", usage::PREFLIGHT);
         return;
     }
     let kind = kind_of(w.at[1]);
     match kind {
-        Kind::Unknown => usage::unfit(w.at[1], b"not a kind of stream; rebase, bind, weak or lazy"),
+        Kind::Unknown => usage::no_kind(w.at[1]),
         _ => judge_kind(kind, w, room),
     }
 }
 
 fn judge_kind(kind: Kind, w: Words, room: &mut [u8]) {
-    let PointerSize::Bytes(size) = words::pointer_size(w.at[2]) else {
+    let PointerSize::Bytes(size) = words::pointer_size(w.at[2], usage::PREFLIGHT) else {
         return;
     };
     let mut sizes = [0; MOST];
@@ -58,7 +58,7 @@ fn judge_kind(kind: Kind, w: Words, room: &mut [u8]) {
     if !gathered.fit {
         return;
     }
-    let Loaded::Bytes(n) = load(w.at[3], room, 0) else {
+    let Loaded::Bytes(n) = load_stream(w.at[3], w.raw, room) else {
         return;
     };
     let verdict = verdict(kind, part(room, 0, n), size, &sizes, gathered.count);
@@ -71,7 +71,7 @@ fn gather(w: Words, sizes: &mut [u64; MOST]) -> Sizes
     let mut count = 0;
     while count < MOST && count + 4 < w.count {
         let word = count + 4;
-        match words::number(w.at[word]) {
+        match words::number(w.at[word], b"size", usage::PREFLIGHT) {
             Numeral::Value(n) => {
                 sizes[count] = n;
             }

@@ -137,3 +137,12 @@ impl Out {
         }
     }
 }
+
+// The length but for the blanks at the end.
+pub(crate) fn trimmed(s: &[u8]) -> usize {
+    let mut n = s.len();
+    while 0 < n && s[n - 1] == b' ' {
+        n -= 1;
+    }
+    n
+}

@@ -11,6 +11,7 @@ mod streams;
 mod usage;
 mod words;
 
+use numerals::Numeral;
 use streams::Kind;
 use words::Words;
 
@@ -20,33 +21,62 @@ const ROOM: usize = 7 * 1024 * 1024;
 fn main() {
     let mut room = [0; ROOM];
     let words = words::collect();
-    if words.fit {
-        if words.count == 0 {
-            usage::all();
-        } else {
-            run(words, &mut room);
-        }
+    if words.help {
+        usage::help();
+    } else if words.version {
+        usage::version();
+    } else if words.count == 0 {
+        usage::none();
+    } else {
+        run(words, &mut room);
     }
 }
 
 fn run(w: Words, whole: &mut [u8; ROOM]) {
     let room = &mut whole[..];
-    let command = w.at[0];
+    let row = row_of(w.at[0]);
+    if row == usage::ROWS {
+        usage::no_command(w.at[0]);
+        return;
+    }
+    let Numeral::Value(max) = w.most(row) else {
+        return;
+    };
+    list(row, w.limited(max), room);
+}
+
+// The row of a command; behind them all where it is none.
+fn row_of(command: usize) -> usize {
     if words::is(command, b"preflight") {
-        flight::judge(w, room);
+        usage::PREFLIGHT
     } else if words::is(command, b"exports") {
-        exports::list(w, room);
+        usage::EXPORTS
     } else if words::is(command, b"segments") {
-        chained::list_segments(w, room);
+        usage::SEGMENTS
     } else if words::is(command, b"imports") {
-        chained::list_imports(w, room);
+        usage::IMPORTS
     } else if words::is(command, b"fixups") {
+        usage::FIXUPS
+    } else {
+        match streams::kind_of(command) {
+            Kind::Unknown => usage::ROWS,
+            _ => usage::STREAM,
+        }
+    }
+}
+
+fn list(row: usize, w: Words, room: &mut [u8]) {
+    if row == usage::PREFLIGHT {
+        flight::judge(w, room);
+    } else if row == usage::EXPORTS {
+        exports::list(w, room);
+    } else if row == usage::SEGMENTS {
+        chained::list_segments(w, room);
+    } else if row == usage::IMPORTS {
+        chained::list_imports(w, room);
+    } else if row == usage::FIXUPS {
         fixups::list(w, room);
     } else {
-        let kind = streams::kind_of(command);
-        match kind {
-            Kind::Unknown => usage::unfit(command, b"not a command; 'dump' alone lists them"),
-            _ => streams::list(kind, w, room),
-        }
+        streams::list(w, room);
     }
 }

@@ -4,10 +4,11 @@ use crate::closing::List;
 use crate::closing::close;
 use crate::closing::listed;
 use crate::file::Loaded;
-use crate::file::load;
+use crate::file::load_stream;
 use crate::flight;
 use crate::flight::Fault;
 use crate::line::Out;
+use crate::usage;
 use crate::words;
 use crate::words::PointerSize;
 use crate::words::Words;
@@ -44,18 +45,18 @@ pub(crate) fn kind_of(i: usize) -> Kind {
     }
 }
 
-pub(crate) fn list(kind: Kind, w: Words, room: &mut [u8]) {
-    if !w.are(3, b"rebase|bind|weak|lazy POINTER_SIZE FILE") {
+pub(crate) fn list(w: Words, room: &mut [u8]) {
+    if !w.are(3, usage::STREAM) {
         return;
     }
-    let PointerSize::Bytes(size) = words::pointer_size(w.at[1]) else {
+    let PointerSize::Bytes(size) = words::pointer_size(w.at[1], usage::STREAM) else {
         return;
     };
-    let Loaded::Bytes(n) = load(w.at[2], room, 0) else {
+    let Loaded::Bytes(n) = load_stream(w.at[2], w.raw, room) else {
         return;
     };
     let mut lines = io::buffer();
-    let list = walk(kind, size, part(room, 0, n), w.max, &mut lines);
+    let list = walk(kind_of(w.at[0]), size, part(room, 0, n), w.max, &mut lines);
     close(&mut lines, list);
 }
 
@@ -90,7 +91,7 @@ fn each_rebase(start: RebaseWalk, s: &[u8], max: u64, fault: Fault, lines: &mut 
                 out = rebase(lines, out, x);
                 w = next;
             }
-            RebaseStep::End(_) => return listed(out, count, Ending::End),
+            RebaseStep::End(stood) => return listed(out, count, ended(stood.cursor.at, s)),
             RebaseStep::Refused(stood, e) => {
                 let place = fault.place(e, stood.cursor.at);
                 return listed(out, count, Ending::Refused(e, place, count));
@@ -98,6 +99,14 @@ fn each_rebase(start: RebaseWalk, s: &[u8], max: u64, fault: Fault, lines: &mut 
         }
     }
     listed(out, count, Ending::Cut)
+}
+
+// A Done ends a stream that is not lazy, wherever it stands.
+fn ended(at: usize, s: &[u8]) -> Ending {
+    if at < s.len() {
+        return Ending::Done(at as u64, s.len() as u64);
+    }
+    Ending::End
 }
 
 fn rebase(lines: &mut [u8], out: Out, x: Rebase) -> Out {
@@ -126,7 +135,7 @@ fn each_bind(start: BindWalk, s: &[u8], max: u64, fault: Fault, lines: &mut [u8]
                 out = bind(lines, out, x, s);
                 w = next;
             }
-            BindStep::End(_) => return listed(out, count, Ending::End),
+            BindStep::End(stood) => return listed(out, count, ended(stood.cursor.at, s)),
             BindStep::Refused(stood, e) => {
                 let place = fault.place(e, stood.cursor.at);
                 return listed(out, count, Ending::Refused(e, place, count));

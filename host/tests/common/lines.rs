@@ -1,6 +1,5 @@
 //! The lines of the program `dump`, written from the words of items as they are at the C boundary.
 
-use brinetrellis::Refusal;
 use std::fmt::Display;
 
 /// What S1 lists, without a closing line.
@@ -99,20 +98,57 @@ fn signed(word: u64) -> i64 {
     word as i64
 }
 
-/// The words of a refusal's name: `NoSegment` is `no segment`.
-fn words(refusal: Refusal) -> String {
-    let mut words = String::new();
-    for letter in format!("{refusal:?}").chars() {
-        if letter.is_uppercase() && !words.is_empty() {
-            words.push(' ');
-        }
-        words.extend(letter.to_lowercase());
-    }
-    words
+/// The names of the refusals in plain words, by their numbers from 1.
+const REFUSALS: [&str; 21] = [
+    "pointer size is neither 4 nor 8",
+    "opcode that this reader does not know",
+    "operand cut off or malformed",
+    "library number too large",
+    "place before any segment was chosen",
+    "place before any type was chosen",
+    "bind before any library was chosen",
+    "bind before any symbol was named",
+    "chained fixups do not fit their bytes",
+    "version of chained fixups that this reader does not know",
+    "format that this reader does not know",
+    "page or chain beyond the list of starts",
+    "chained pointer outside the segment's bytes",
+    "import does not fit its bytes",
+    "trie node or edge malformed",
+    "trie node is its own ancestor",
+    "too many trie nodes open at once",
+    "exported name longer than the room for it",
+    "walk state that no walk can have",
+    "place outside its segment",
+    "too many segment sizes, or one too large",
+];
+
+/// A refusal's name in quotes.
+fn named(number: u64) -> String {
+    let words = REFUSALS[number as usize - 1];
+    format!("name \"{words}\"\n")
 }
 
 /// The closing line of a refusal by its number. The place is a number, or what stands for one.
 pub fn refused(number: u64, place: impl Display, index: u64) -> String {
-    let words = words(Refusal::try_from(number).expect("a refusal"));
-    format!("refused  number {number}  place {place}  index {index}  name \"{words}\"\n")
+    let name = named(number);
+    format!("refused  number {number}  place {place}  index {index}  {name}")
+}
+
+/// A segment whose record is refused.
+pub fn refused_segment(index: u64) -> String {
+    format!("segment {index:>7}  refused  number 9  {}", named(9))
+}
+
+/// The closing line where so many records of segments are refused: where the starts are, and the
+/// index of the first such segment.
+pub fn refused_records(starts: u64, first: u64, records: u64) -> String {
+    let name = named(9);
+    format!("refused  number 9  place {starts}  index {first}  records {records}  {name}")
+}
+
+/// The closing line of a stream that has so many items and ends by Done, which is the last of so many
+/// bytes read, before its bytes do.
+pub fn done(items: u64, read: usize, of: usize) -> String {
+    format!("end  items {items}  read {read}  of {of}\n")
 }

@@ -24,6 +24,7 @@ const EACH: usize = 18;
 const ITEM: u64 = 0;
 const END: u64 = 256;
 
+const FAULTY_CHAINS: u64 = 9;
 const NAME_TOO_LONG: u64 = 18;
 
 /// Stands for the place of a refusal, where the record does not tell it.
@@ -102,7 +103,7 @@ fn question(line: &'static str) -> Option<Question> {
         ["segments", _, fixups] => segments(told, &bytes(fixups)),
         ["imports", _, fixups] => imports(told, &bytes(fixups)),
         ["pages", nth, base, _, fixups, _] => pages(told, nth, base, &bytes(fixups)),
-        [kind, size, _, _] => stream(told, kind, size),
+        [kind, size, _, stream] => walk_of(told, kind, size, &bytes(stream)),
         _ => panic!("no case: {line}"),
     };
     // The bytes stand last: one text, or two where those of a segment stand behind its chained fixups.
@@ -146,14 +147,48 @@ fn preflight(kind: &str, size: &str, sizes: &str, words: &[u64]) -> (String, Str
     (command, expected)
 }
 
-fn stream(mut told: Told<'_>, kind: &str, size: &str) -> (String, String) {
+/// A stream that ends by Done before its bytes do tells how many are read.
+fn walk_of(mut told: Told<'_>, kind: &str, size: &str, stream: &[u8]) -> (String, String) {
     let walk = if kind == "rebase" {
         told.walk(3, |_, item, _| lines::rebase(item))
     } else {
         told.walk(8, |_, item, told| lines::bind(item, told.name(item[5])))
     };
-    let listed = walk.listed();
-    walk.put(format!("{} {size} FILE", named(kind)), ANYWHERE, listed)
+    let (listed, ending) = (walk.listed(), walk.ending);
+    let (command, text) = walk.put(format!("{} {size} FILE", named(kind)), ANYWHERE, listed);
+    match up_to_done(kind, stream) {
+        Some(read) if ending == Some(END) && read < stream.len() => {
+            let end = format!("end  items {listed}\n");
+            let items = text.strip_suffix(&end).expect("an end");
+            let done = lines::done(listed, read, stream.len());
+            (command, items.to_string() + &done)
+        }
+        _ => (command, text),
+    }
+}
+
+/// How many bytes a stream has up to its first Done, which is one of them. A lazy one is not ended by it.
+fn up_to_done(kind: &str, stream: &[u8]) -> Option<usize> {
+    let mut at = 0;
+    while kind != "lazy" && at < stream.len() {
+        let operation = stream[at] >> 4;
+        at += 1;
+        // How many operands there are, each up to the first byte that is below 0x80, or that is 0.
+        let (operands, end) = match (kind, operation) {
+            (_, 0) => return Some(at),
+            ("rebase", 2 | 3 | 6 | 7) => (1, 0x7f),
+            ("rebase", 8) => (2, 0x7f),
+            ("rebase", _) => (0, 0),
+            (_, 4) => (1, 0),
+            (_, 2 | 6 | 7 | 8 | 10) => (1, 0x7f),
+            (_, 12) => (2, 0x7f),
+            _ => (0, 0),
+        };
+        for _ in 0..operands {
+            at += stream[at..].iter().position(|byte| *byte <= end)? + 1;
+        }
+    }
+    None
 }
 
 fn trie(mut told: Told<'_>) -> (String, String) {
@@ -165,15 +200,39 @@ fn trie(mut told: Told<'_>) -> (String, String) {
     walk.put("exports FILE".to_string(), ANYWHERE, listed)
 }
 
-/// A segment is refused by its index, and the place of the starts.
+/// A record that is refused has a line, too, and the walk goes on behind it.
 fn segments(mut told: Told<'_>, fixups: &[u8]) -> (String, String) {
-    let command = "segments FILE".to_string();
+    let mut command = "segments FILE".to_string();
     if let Some(number) = told.refused_start() {
         return (command, lines::refused(number, 0, 0));
     }
-    let walk = told.walk(8, |_, item, _| lines::segment(item));
-    let index = with_record(fixups, walk.lines.len()).unwrap_or(0);
-    walk.put(command, u32_at(fixups, 4), index)
+    // The lines, and the index of each that is refused.
+    let mut rows: Vec<(String, Option<u64>)> = Vec::new();
+    let ending = loop {
+        let walk = told.walk(8, |_, item, _| lines::segment(item));
+        rows.extend(walk.lines.into_iter().map(|line| (line, None)));
+        if walk.ending != Some(FAULTY_CHAINS) {
+            break walk.ending;
+        }
+        let index = with_record(fixups, rows.len()).expect("a segment with a record");
+        rows.push((lines::refused_segment(index), Some(index)));
+    };
+    let mut word = "end";
+    if ending.is_none() {
+        rows.pop();
+        command += &format!(" --max {}", rows.len());
+        word = "cut";
+    }
+    let refused: Vec<u64> = rows.iter().filter_map(|(_, index)| *index).collect();
+    let closing = match refused[..] {
+        [] => format!("{word}  items {}\n", rows.len()),
+        [first, ..] => {
+            let starts = u32_at(fixups, 4) as u64;
+            lines::refused_records(starts, first, refused.len() as u64)
+        }
+    };
+    let items: String = rows.into_iter().map(|(line, _)| line).collect();
+    (command, items + &closing)
 }
 
 /// The index of the segment that has a record, behind so many others that have one: behind a count, the

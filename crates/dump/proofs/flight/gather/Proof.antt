@@ -5,10 +5,10 @@ use Rattle.dump.proofs.flight.gather.Statement.{statement}
 use Rattle.dump.proofs.flight.gather.Tie as tie
 
 abbrev Inv-loop : tie.InvT-loop
-Inv-loop sizes₀ w count₀ sizes count = count ≤ 17
+Inv-loop sizes₀ w count₀ t7 sizes count = count ≤ 17
 
 abbrev μ-loop : tie.MeasureT-loop
-μ-loop sizes₀ w count₀ sizes count = 17 - count
+μ-loop sizes₀ w count₀ t7 sizes count = 17 - count
 
 pub gather-spec : {M : Type 1} → statement M
 gather-spec =
@@ -16,6 +16,7 @@ gather-spec =
     (tie.spec
     Inv-loop
     μ-loop
+    (λ c. search needs)
     (λ c. search needs)
     (λ c. search needs)
     (λ c. search needs)

@@ -1,9 +1,9 @@
--- `dump::closing::trimmed` meets its contract. Assumes nothing.
+-- `dump::line::trimmed` meets its contract. Assumes nothing.
 use Prim.Native.Nat.{_≤_}
 use lib.ListN.{length}
 use borrow.Author.Needs.{needs}
-use Rattle.dump.proofs.closing.trimmed.Statement.{statement}
-use Rattle.dump.proofs.closing.trimmed.Tie as tie
+use Rattle.dump.proofs.line.trimmed.Statement.{statement}
+use Rattle.dump.proofs.line.trimmed.Tie as tie
 
 abbrev Inv-loop : tie.InvT-loop
 Inv-loop s n₀ n = n ≤ length s
