@@ -9,10 +9,11 @@
 #
 #   1. No function leads back to itself.
 #   2. There is no loop but that over the operations. (Before it, a function may loop that is given the sizes and nothing else.)
-#   3. With each turn of that loop there are fewer bytes behind the place of the next operation: by that measure the loop is proved to end.
+#   3. Each turn of that loop reads, and with each turn there are fewer bytes behind the place of the next operation: by that measure the
+#      loop is proved to end.
 #
-# So there are no more turns than the stream has bytes, and a turn has a bounded number of steps beside the reading. The forms of a
-# program are those of the kit's logic/Mir/Syntax.antt. A form that is not known here is refused.
+# So there are no more turns than readings, and none of them goes back; a turn has a bounded number of steps beside the reading. The forms
+# of a program are those of the kit's logic/Mir/Syntax.antt. A form that is not known here is refused.
 use strict;
 use warnings;
 no warnings 'recursion';
@@ -155,6 +156,7 @@ sub one_loop {
         if ($act eq 'loop') {
             refuse("loop in $name") if $read || !grep { reads($_) } calls($of);
             no_loop($name, $of);
+            turns_read($name, $of);
             measured($name);
             $read = 1;
         } elsif ($parser{$of}) {
@@ -178,6 +180,54 @@ sub no_loop {
 }
 
 # ---- rule 3: the turns of the loop over the operations
+
+# A body is left by going on ('on'), by an exit out of so many blocks and loops (0, 1, ..), or by a return. For each of these ways: whether
+# every path to it has read. Where ways meet, all of them must have.
+sub ways {
+    my ($body, $read) = @_;
+    my ($form, @of) = statement($body);
+    return { return => $read } if $form eq 'return';
+    return { $of[0] => $read } if $form eq 'exit';
+    return { on => $read } if $form eq 'skip' || $form eq 'assign';
+    return { on => $read || always_reads(callee($of[0])) } if $form eq 'call';
+    return outwards(ways($of[0], $read)) if $form eq 'block';
+    return merged(map { ways($_, $read) } @of[1, 2]) if $form eq 'if';
+    return merged(map { ways($_, $read) } arms($of[1])) if $form eq 'switch';
+    $form eq 'seq' or refuse("a loop where none is looked into: $form");
+    my $ways = ways($of[0], $read);
+    exists $ways->{on} or return $ways;
+    my $on = delete $ways->{on};
+    return merged($ways, ways($of[1], $on));
+}
+
+sub merged {
+    my %merged;
+    for my $ways (@_) {
+        $merged{$_} = $ways->{$_} && ($merged{$_} // 1) for keys %$ways;
+    }
+    return \%merged;
+}
+
+# The ways out of a block, by those out of its body.
+sub outwards {
+    my ($ways) = @_;
+    return merged(map { my $to = /^(on|0)$/ ? 'on' : /^\d+$/ ? $_ - 1 : $_; +{ $to => $ways->{$_} } } keys %$ways);
+}
+
+# Whether a function is a parser, or has called one whenever it returns.
+sub always_reads {
+    my ($name) = @_;
+    return 1 if $parser{$name};
+    return 0 unless reads($name) && !grep { $_->[0] eq 'loop' } acts($body{$name});
+    return !grep { !$_ } values %{ ways($body{$name}, 0) };
+}
+
+# A loop comes round at the end of its body, and at an exit out of that alone.
+sub turns_read {
+    my ($name, $loop) = @_;
+    my $ways = outwards(ways($loop, 0));
+    !exists $ways->{on} || $ways->{on} or refuse("a turn without a reading in $name");
+}
 
 # In the proof of a function that has the loop. The kit proves that the measure falls with each turn.
 sub measured {

@@ -10,11 +10,12 @@
  *
  * Call the typed functions, at the end: they take states, items and verdicts by pointers to their structs, so that a
  * program with two of them swapped does not compile. They are inline, and call the entry points, which take every
- * record as bytes. A program that drops an answer is warned of.
+ * record as bytes. A program that drops an answer is warned of by GCC and Clang,
+ * and in C++17.
  *
  * Threads: nothing is kept between calls, so any number of threads may call at once, if what one call writes is lent
  * to no other at the same time. Allocation: nothing is allocated, all memory is the caller's. Stack: a call takes less
- * than 64 KiB, whatever the bytes are.
+ * than 64 KiB (measured).
  *
  * The archive is code for x86-64, and a record is only laid out as its struct below on a little-endian host, which
  * an x86-64 one is. Every entry point takes numbers and byte slices, a pointer and then a length, and answers one
@@ -40,9 +41,9 @@ extern "C" {
 #endif
 
 /* The version of this header. */
-#define BRINETRELLIS_VERSION "0.1.0"
-#define BRINETRELLIS_VERSION_MAJOR 0
-#define BRINETRELLIS_VERSION_MINOR 1
+#define BRINETRELLIS_VERSION "4.0.0"
+#define BRINETRELLIS_VERSION_MAJOR 4
+#define BRINETRELLIS_VERSION_MINOR 0
 #define BRINETRELLIS_VERSION_PATCH 0
 
 /* A function whose answer must not be dropped: a gate that does not look at it lets everything pass. */

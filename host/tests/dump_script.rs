@@ -4,7 +4,7 @@ mod common;
 
 use common::lines::{refused, S1_LINES};
 use common::program::{dump, dump_with, listed, start, Folder, Said, DUMP};
-use common::{contents, sample, S1, S4};
+use common::{contents, hanging, sample, S1, S4};
 use std::env;
 use std::fs::{self, File};
 use std::io::{BufRead, BufReader};
@@ -32,6 +32,13 @@ fn the_status_is_told_by_the_last_line() {
         assert_eq!(last.split(' ').next(), Some(word), "{command}: {last}");
         assert_eq!(said.status, status, "{command}: {last}");
     }
+}
+
+#[test]
+fn a_trie_that_is_not_listed_to_its_end_is_2() {
+    let said = dump("exports FILE", &[&hanging()]);
+    let line = "spent  items 0  nodes 16777216\n";
+    assert_eq!((said.out.as_str(), said.status), (line, 2));
 }
 
 #[test]

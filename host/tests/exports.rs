@@ -3,7 +3,7 @@
 mod common;
 
 use brinetrellis::{Error, Export, Exports, Found, Progress, Refusal, Target};
-use common::{chain, SHARED};
+use common::{chain, hanging, SHARED};
 
 /// The name of an export, its flags, and what it stands for.
 type Told<'a> = (Vec<u8>, u8, Target<'a>);
@@ -232,24 +232,6 @@ fn no_more_than_256_nodes_are_open() {
     let exports = [regular(b"", 0, 7)];
     assert_eq!(all(&chain(256)).expect("exports"), exports);
     assert_eq!(all(&chain(257)), Err(Refusal::TooManyOpenNodes.into()));
-}
-
-/// A trie of 43 nodes with two edges each, both to the next node, and a last node without any. No
-/// node exports, and 2^43 ways lead to the last.
-fn hanging() -> Vec<u8> {
-    let mut trie = Vec::new();
-    for _ in 0..43 {
-        // Below 128 an offset has one byte, from there on two.
-        let child = trie.len() + 8;
-        let offset = match child {
-            0..=127 => vec![child as u8],
-            _ => vec![(child + 2) as u8 | 0x80, ((child + 2) >> 7) as u8],
-        };
-        let edges = [b"a\0", &offset[..], b"b\0", &offset[..]].concat();
-        trie.extend([&[0x00, 0x02][..], &edges].concat());
-    }
-    trie.extend([0x00, 0x00]);
-    trie
 }
 
 #[test]

@@ -64,10 +64,10 @@ fn printed(text: &str) -> Vec<u8> {
 }
 
 #[test]
-fn the_session_of_readme_is_what_is_printed() {
-    let start = README.find("    $ printf ").expect("a session");
-    let session = README[start..].split("\n\n").next().expect("a block");
-    let mut steps = session.split("    $ ").skip(1);
+fn what_readme_shows_is_what_is_printed() {
+    let start = README.find("    $ printf ").expect("a transcript");
+    let transcript = README[start..].split("\n\n").next().expect("a block");
+    let mut steps = transcript.split("    $ ").skip(1);
     let first = steps.next().expect("a file is written").trim();
     let (bytes, file) = first
         .strip_prefix("printf ")

@@ -56,12 +56,14 @@ const NAMES: [[u8; 56]; ROWS] = [
     *b"too many segment sizes, or one too large                ",
 ];
 
-// How a list ends: all is listed; all up to a Done, with so many bytes read of so many; there is more; nothing is
-// listed, and the preflight passes; a refusal, with its place and index; or the same of the first of so many records.
+// How a list ends: all is listed; all up to a Done, with so many bytes read of so many; there is more than was asked
+// for; so many nodes were visited, and no further; nothing is listed, and the preflight passes; a refusal, with its
+// place and index; or the same of the first of so many records.
 pub(crate) enum Ending {
     End,
     Done(u64, u64),
     Cut,
+    Spent(u64),
     Pass,
     Refused(Refusal, u64, u64),
     Records(Refusal, u64, u64, u64),
@@ -85,6 +87,7 @@ pub(crate) fn close(lines: &mut [u8], list: List) {
         Ending::End => counted(lines, list.out, b"end  items ", list.count),
         Ending::Done(read, of) => done(lines, list, read, of),
         Ending::Cut => counted(lines, list.out, b"cut  items ", list.count),
+        Ending::Spent(nodes) => spent(lines, list, nodes),
         Ending::Pass => counted(lines, list.out, b"pass  operations ", list.count),
         Ending::Refused(e, place, index) => refused(lines, list.out, e, place, index),
         Ending::Records(e, place, index, records) => {
@@ -104,6 +107,12 @@ fn done(lines: &mut [u8], list: List, read: u64, of: u64) {
     let out = list.out.decimal(lines, b"end  items ", 0, list.count);
     let out = out.decimal(lines, b"  read ", 0, read);
     let out = out.decimal(lines, b"  of ", 0, of);
+    out.byte(lines, b'\n').finish(lines);
+}
+
+fn spent(lines: &mut [u8], list: List, nodes: u64) {
+    let out = list.out.decimal(lines, b"spent  items ", 0, list.count);
+    let out = out.decimal(lines, b"  nodes ", 0, nodes);
     out.byte(lines, b'\n').finish(lines);
 }
 

@@ -47,7 +47,7 @@ fn each(s: &[u8], name: &mut [u8], max: u64, lines: &mut [u8]) -> List {
                 count += 1;
                 out = exported(lines, out, export, part(name, 0, length as usize), s);
             }
-            TrieAnswer::More => return listed(out, count, Ending::Cut),
+            TrieAnswer::More => return listed(out, count, Ending::Spent(NODES)),
             TrieAnswer::End => return listed(out, count, Ending::End),
             TrieAnswer::Refused(e) => {
                 return listed(out, count, Ending::Refused(e, place(w), count));

@@ -149,7 +149,7 @@ module _ (M : Machine) (s : List ℕ) where
 
   -- ---- so calls say it
 
-  abbrev Below : State (M .Reg) → Type 0
+  abbrev pub Below : State (M .Reg) → Type 0
   Below w = w .cursor .offset < 2 ^ 64
 
   below-due : (c : Cursor) (next : ℕ) (t : Turn) → IfMoved (λ d. Unit {0}) (λ d. d .offset < 2 ^ 64) (movedBy c next t)
@@ -166,7 +166,8 @@ module _ (M : Machine) (s : List ℕ) where
       by-call M s (λ v. Unit {0}) Below (λ v at next op e p. below-due (v .cursor) next (turnOf _ _ _)) w
       (walks.Stays Below) (λ u v p d. d) (λ v p. tt) (λ e. tt) tt (λ r. tt) (λ n e. omega arith)
 
-  walks-below : (w : State (M .Reg)) → Below w → Walks (call M s) w (ahead w)
+  -- from an offset that its type has, they say what is ahead
+  pub walks-below : (w : State (M .Reg)) → Below w → Walks (call M s) w (ahead w)
   walks-below = walks-ahead (call M s) ahead Below call-says (λ w p. stays w)
 
   -- every state has a run

@@ -165,3 +165,7 @@ module _ (s : List ℕ) (short : length s < 2 ^ 64) where
   out-of-range-back state i b h l r =
       refused-back states items (Typed TypedRegisters) faithful long (call binds s) (typed-call s short) state b h i l
       (out-of-range binds (stateAt state) s r)
+
+-- a state and an item have so many bytes
+pub lengths : (states .long ≡ 144) × (items .long ≡ 64)
+lengths = (refl, refl)

@@ -7,7 +7,7 @@ use Rattle.packing.specs.Boundary.{States, Items}
 use Rattle.packing.specs.Fields.{flag, u64, isRecord, isSet, bit, unsignedOf, signedOf}
 use Rattle.packing.specs.Words.{wordAt, bytesOf}
 
--- ---- states: place, symbols, left, format, ended
+-- ---- states: place, symbols_offset, left, imports_format, ended
 
 abbrev pub stateFields : List ℕ
 stateFields = u64 ∷ u64 ∷ u64 ∷ u64 ∷ flag ∷ []

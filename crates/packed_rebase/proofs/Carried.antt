@@ -128,3 +128,7 @@ module _ (s : List ℕ) (short : length s < 2 ^ 64) where
   out-of-range-back state i b h l r =
       refused-back states items (Typed TypedRegisters) faithful long (call rebases s) (typed-call s short) state b h i l
       (out-of-range rebases (stateAt state) s r)
+
+-- a state and an item have so many bytes
+pub lengths : (states .long ≡ 80) × (items .long ≡ 24)
+lengths = (refl, refl)

@@ -32,7 +32,7 @@ tries-call = refl
 
 -- ---- states that only a host can make up
 
--- more than 256 open nodes are 19, though the walk has not begun
+-- more than 256 open nodes are 19
 deep-refused : call 256 loop 9 (atDepth 257 (atStart 256)) [] ≡ replied (refused 19) (atDepth 257 (atStart 256)) 0 []
 unfolding outOfRange call
 deep-refused = refl

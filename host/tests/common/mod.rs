@@ -35,6 +35,24 @@ pub fn chain(nodes: usize) -> Vec<u8> {
     trie
 }
 
+/// A trie of 43 nodes with two edges each, both to the next node, and a last node without any. No
+/// node exports, and 2^43 ways lead to the last.
+pub fn hanging() -> Vec<u8> {
+    let mut trie = Vec::new();
+    for _ in 0..43 {
+        // Below 128 an offset has one byte, from there on two.
+        let child = trie.len() + 8;
+        let offset = match child {
+            0..=127 => vec![child as u8],
+            _ => vec![(child + 2) as u8 | 0x80, ((child + 2) >> 7) as u8],
+        };
+        let edges = [b"a\0", &offset[..], b"b\0", &offset[..]].concat();
+        trie.extend([&[0x00, 0x02][..], &edges].concat());
+    }
+    trie.extend([0x00, 0x00]);
+    trie
+}
+
 /// A trie with one export, of the flags 0 and the address 5, whose name has so many bytes. Its edge
 /// begins at 2; behind the NUL the offset of the node takes three bytes.
 pub fn long_name(length: usize) -> Vec<u8> {
