@@ -10,7 +10,8 @@ int main(void) {
     while (answer == BRINETRELLIS_ITEM) {
         answer = brinetrellis_rebases_next(stream, sizeof stream, &state, &item);
         if (answer == BRINETRELLIS_ITEM)
-            printf("segment %" PRIu64 ", offset %" PRIu64 ", type %" PRIu64 "\n", item.segment, item.place, item.type);
+            printf("segment %" PRIu64 ", offset %" PRIu64 ", type %" PRIu64 "\n", item.segment, item.place,
+                   item.type);
     }
     if (answer == BRINETRELLIS_END)
         return 0;

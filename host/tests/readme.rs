@@ -27,9 +27,18 @@ fn the_examples_are_those_that_are_compiled() {
     assert!(shows(API, include_str!("../examples/walk.rs")));
 }
 
+/// A line of the sample as README shows it: `..` stands for flags and addend.
+fn narrowed(line: &str) -> String {
+    match (line.find("  flags "), line.find("  name ")) {
+        (Some(from), Some(to)) => format!("{}  ..{}\n", &line[..from], &line[to..]),
+        _ => format!("{line}\n"),
+    }
+}
+
 #[test]
 fn the_sample_is_the_one_that_is_run() {
-    assert!(shows(README, include_str!("../../crates/dump/stdout")));
+    let sample = include_str!("../../crates/dump/stdout").lines();
+    assert!(shows(README, &sample.map(narrowed).collect::<String>()));
     let command = include_str!("../../crates/dump/args");
     let words: Vec<&str> = command.lines().collect();
     let [kind, size, file] = words[..] else {

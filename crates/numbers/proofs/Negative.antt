@@ -44,9 +44,6 @@ module _ (z : ℤ) (f : SFits w64 z) (t : ltZ (toZ w64 (ofZ w64 z)) (pos 0) ≡ 
   pub flip-casts : T (nonNeg (toZ w64 (ofZ w64 (negsuc 0 -ℤ toZ w64 (ofZ w64 z))))) × Fits w64 (natAbs (toZ w64 (ofZ w64 (negsuc 0 -ℤ toZ w64 (ofZ w64 z)))))
   flip-casts = rw back (tt, record { fits = omega (arith, less .small) })
 
-  pub flip-more : Fits w64 (natAbs (toZ w64 (ofZ w64 (negsuc 0 -ℤ toZ w64 (ofZ w64 z)))) + 1)
-  flip-more = rw back (record { fits = omega (arith, less .small) })
-
   pub flip-is : natAbs (toZ w64 (ofZ w64 (negsuc 0 -ℤ toZ w64 (ofZ w64 z)))) + 1 ≡ natAbs z
   flip-is = ap (λ (y : ℤ). natAbs y + 1) back ∙ add-one (less .n) ∙ sym (ap natAbs (less .is))
 

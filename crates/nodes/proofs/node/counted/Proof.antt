@@ -8,7 +8,7 @@ pub counted-spec : {M : Type 1} → statement M
 counted-spec =
     tie.close
     (tie.spec
-    (λ c. search (not-counted, counted, needs))
+    (λ c. search (not-counted, needs))
     (λ c. search needs)
     (λ c. search needs)
-    (λ c. search (not-counted, counted, needs)))
+    (λ c. search (counted, needs)))

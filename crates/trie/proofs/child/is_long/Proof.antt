@@ -8,6 +8,6 @@ pub is-long-spec : {M : Type 1} → statement M
 is-long-spec =
     tie.close
     (tie.spec
-    (λ c. search (long-kept, long-more, needs))
+    (λ c. search (long-kept, needs))
     (λ c. search needs)
-    (λ c. search (long-kept, long-more, needs)))
+    (λ c. search (long-more, needs)))
