@@ -1,4 +1,5 @@
-//! Links libbrinetrellis.a, from the folder BRINETRELLIS_LIBRARY or from where `rt staticlib` writes it.
+//! Links libbrinetrellis.a, from the folder BRINETRELLIS_LIBRARY or from where `.ci/archive` writes the archive for the
+//! target.
 
 use std::env;
 use std::path::{Path, PathBuf};
@@ -6,25 +7,41 @@ use std::process::exit;
 
 const VARIABLE: &str = "BRINETRELLIS_LIBRARY";
 
+/// The target as `.ci/archive` names it.
+fn target() -> Option<&'static str> {
+    let of_cargo = |what: &str| env::var(format!("CARGO_CFG_TARGET_{what}")).unwrap_or_default();
+    match (of_cargo("ARCH").as_str(), of_cargo("OS").as_str()) {
+        ("x86_64", "linux") => Some("x86_64-linux"),
+        ("aarch64", "linux") => Some("aarch64-linux"),
+        ("aarch64", "macos") => Some("arm64-macos"),
+        ("x86_64", "macos") => Some("x86_64-macos"),
+        _ => None,
+    }
+}
+
+fn give_up(why: &str) -> ! {
+    eprintln!("{why}, or set {VARIABLE} to the folder that has the archive.");
+    exit(1)
+}
+
 fn main() {
-    let folder = match env::var_os(VARIABLE) {
-        Some(folder) => PathBuf::from(folder),
-        None => Path::new(env!("CARGO_MANIFEST_DIR")).join("../target/staticlib"),
+    println!("cargo:rerun-if-env-changed={VARIABLE}");
+    let (folder, target) = match (env::var_os(VARIABLE), target()) {
+        (Some(folder), target) => (PathBuf::from(folder), target.unwrap_or("TARGET")),
+        (None, Some(target)) => {
+            let archives = Path::new(env!("CARGO_MANIFEST_DIR")).join("../target/archive");
+            (archives.join(target), target)
+        }
+        (None, None) => give_up("no archive is made for this target: take another"),
     };
     let archive = folder.join("libbrinetrellis.a");
-    println!("cargo:rerun-if-env-changed={VARIABLE}");
     println!("cargo:rerun-if-changed={}", archive.display());
     if !archive.is_file() {
-        eprintln!(
-            "{} is missing: run `rt staticlib brinetrellis` in the repository, or set {VARIABLE} \
-             to the folder that has the archive.",
+        give_up(&format!(
+            "{} is missing: run `.ci/archive {target}` in the repository",
             archive.display()
-        );
-        exit(1);
+        ));
     }
     println!("cargo:rustc-link-search=native={}", folder.display());
     println!("cargo:rustc-link-lib=static=brinetrellis");
-    if env::var("CARGO_CFG_TARGET_ARCH").as_deref() != Ok("x86_64") {
-        println!("cargo:warning=libbrinetrellis.a is code for x86-64: nothing links");
-    }
 }

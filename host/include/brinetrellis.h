@@ -17,10 +17,10 @@
  * to no other at the same time. Allocation: nothing is allocated, all memory is the caller's. Stack: a call takes less
  * than 64 KiB (measured).
  *
- * The archive is code for x86-64, and a record is only laid out as its struct below on a little-endian host, which
- * an x86-64 one is. Every entry point takes numbers and byte slices, a pointer and then a length, and answers one
- * number. Every slice may have any length, 0 too: what does not fit is answered, never read. Slices that are written
- * must not overlap any other slice of the call.
+ * There are archives for x86-64 and for Arm of 64 bits, for Linux and for macOS. A record is only laid out as its struct
+ * below on a little-endian host, which these are. Every entry point takes numbers and byte slices, a pointer and then a
+ * length, and answers one number. Every slice may have any length, 0 too: what does not fit is answered, never read.
+ * Slices that are written must not overlap any other slice of the call.
  *
  * A record is words of eight bytes, one behind the other: numbers without a sign, but for those that are int64_t
  * below, which are in two's complement; a mark is 0 or 1. Bare entry points are lent one as

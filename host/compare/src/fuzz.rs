@@ -1,7 +1,7 @@
 //! A run over all sections, on two threads. What a part of it does depends on the seed and the part
 //! alone, so that a run is the same on any machine.
 
-use crate::exhaustive::RUNS;
+use crate::exhaustive::{Strings, GROUPS, RUNS};
 use crate::judge::{Bench, KEPT};
 use crate::random::Random;
 use crate::sections::{self, Amount, SECTIONS};
@@ -45,30 +45,39 @@ struct Outcome {
     printed: usize,
 }
 
-/// The short inputs, all of them or so many apart that they are half of the cases at most.
+/// The short inputs, group by group, and how many they are: all of a group, or so many apart that the
+/// short inputs are half of the cases at most.
 fn short(cases: u64, seed: u64, parts: &mut Vec<Part>) -> u64 {
-    let all: u64 = RUNS.iter().map(|(_, strings)| strings.count()).sum();
-    let stride = all.div_ceil((cases / 2).max(1)).max(1);
-    for (run, (_, strings)) in RUNS.iter().enumerate() {
-        let mut from = seed % stride;
-        let mut number = 0;
-        while from < strings.count() {
-            let to = (from + PART * stride).min(strings.count());
-            let work = Work::Strings {
-                run,
-                from,
-                to,
-                stride,
-            };
-            parts.push(Part {
-                section: SECTIONS.len(),
-                number,
-                work,
-            });
-            (from, number) = (from + PART * stride, number + 1);
+    let mut left = cases / 2;
+    for group in GROUPS {
+        let all: u64 = RUNS[group.clone()].iter().map(Strings::count).sum();
+        if left > 0 {
+            let stride = all.div_ceil(left);
+            group.for_each(|run| strings(run, seed % stride, stride, parts));
+            left -= all / stride;
         }
     }
-    all / stride
+    cases / 2 - left
+}
+
+/// The parts of a run, from an index on, so many apart.
+fn strings(run: usize, mut from: u64, stride: u64, parts: &mut Vec<Part>) {
+    let (count, mut number) = (RUNS[run].count(), 0);
+    while from < count {
+        let to = (from + PART * stride).min(count);
+        let work = Work::Strings {
+            run,
+            from,
+            to,
+            stride,
+        };
+        parts.push(Part {
+            section: SECTIONS.len(),
+            number,
+            work,
+        });
+        (from, number) = (from + PART * stride, number + 1);
+    }
 }
 
 /// All parts of a run; without a judge only those that need none.

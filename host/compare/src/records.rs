@@ -196,9 +196,17 @@ impl Record {
             let strange = random.once_in(40 * depth as usize);
             let places = lent.bytes.len() + 1 + usize::from(strange);
             set_word(&mut self.bytes, PLACES + index, random.below(places) as u64);
-            set_word(&mut self.bytes, OFFSETS + index, near(random, lent.bytes.len()));
+            set_word(
+                &mut self.bytes,
+                OFFSETS + index,
+                near(random, lent.bytes.len()),
+            );
             let lengths = lent.name.len() + 1 + usize::from(strange);
-            set_word(&mut self.bytes, LENGTHS + index, random.below(lengths) as u64);
+            set_word(
+                &mut self.bytes,
+                LENGTHS + index,
+                random.below(lengths) as u64,
+            );
             self.bytes[LEFT + index] = random.byte() % 4;
         }
     }

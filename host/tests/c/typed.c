@@ -1,9 +1,13 @@
-/* Every typed function, on the samples of the other tests: each hands on what it is lent. All of it runs on a thread
- * with a stack of 64 KiB, which the header says is enough. C99 and C++. */
+/* Every typed function, on the samples of the other tests: each hands on what it is lent. All of it runs on a stack of
+ * 64 KiB, which the header says is enough, above memory that nobody may touch. C99 and C++, on Linux. */
+#ifndef _GNU_SOURCE
+#define _GNU_SOURCE
+#endif
 #include "brinetrellis.h"
-#include <pthread.h>
 #include <stdio.h>
 #include <string.h>
+#include <sys/mman.h>
+#include <ucontext.h>
 
 static int failed = 0;
 
@@ -168,7 +172,7 @@ static void answers(void) {
     CHECK(brinetrellis_answer_of(UINT64_MAX) == BRINETRELLIS_UNKNOWN_ANSWER);
 }
 
-static void *all(void *nothing) {
+static void all(void) {
     rebase_walk();
     bind_walks();
     verdicts();
@@ -176,13 +180,20 @@ static void *all(void *nothing) {
     fixup_walks();
     import_walk();
     answers();
-    return nothing;
 }
 
+/* A thread's stack may not be that small on every processor, so the stack is changed by hand. */
 int main(void) {
-    pthread_attr_t small;
-    pthread_t thread;
-    CHECK(pthread_attr_init(&small) == 0 && pthread_attr_setstacksize(&small, 65536) == 0);
-    CHECK(pthread_create(&thread, &small, all, NULL) == 0 && pthread_join(thread, NULL) == 0);
+    const size_t stack = 65536, guard = 65536;
+    ucontext_t here, there;
+    void *memory = mmap(NULL, guard + stack, PROT_NONE, MAP_PRIVATE | MAP_ANONYMOUS, -1, 0);
+    char *lowest = (char *)memory + guard;
+    if (memory == MAP_FAILED || mprotect(lowest, stack, PROT_READ | PROT_WRITE) != 0 || getcontext(&there) != 0)
+        return 1;
+    there.uc_stack.ss_sp = lowest;
+    there.uc_stack.ss_size = stack;
+    there.uc_link = &here;
+    makecontext(&there, all, 0);
+    CHECK(swapcontext(&here, &there) == 0);
     return failed;
 }
