@@ -134,12 +134,13 @@ fn modules(object40: &Path, object30: &Path, gimli: &Path) -> String {
     text
 }
 
-/// Whether the crate memchr is taken: in the package for that, where rustc allows what is unstable,
-/// as is the use of its own crates, and has this one for the target.
+/// Whether the crate memchr is taken: in a package that is named for it, where rustc allows what is
+/// unstable, as is the use of its own crates, and has this one for the target.
 fn real_memchr() -> bool {
     println!("cargo:rerun-if-env-changed=RUSTC_BOOTSTRAP");
-    let is = |variable, value| env::var(variable).as_deref() == Ok(value);
-    is("CARGO_PKG_NAME", "oracle_memchr") && is("RUSTC_BOOTSTRAP", "1") && in_sysroot("libmemchr-")
+    let named = env::var("CARGO_PKG_NAME").is_ok_and(|name| name.starts_with("oracle_memchr"));
+    let unstable = env::var("RUSTC_BOOTSTRAP").is_ok_and(|value| value == "1");
+    named && unstable && in_sysroot("libmemchr-")
 }
 
 /// Whether rustc has a library whose file begins so.
@@ -157,7 +158,7 @@ fn in_sysroot(beginning: &str) -> bool {
 }
 
 fn main() {
-    // Two packages have this file.
+    // Several packages have this file.
     println!("cargo:rerun-if-changed=../oracle/build.rs");
     println!("cargo:rustc-check-cfg=cfg(live, real_memchr)");
     println!("cargo:rustc-check-cfg=cfg(feature, values({FEATURES}))");

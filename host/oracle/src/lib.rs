@@ -6,9 +6,10 @@
 //! with the numbers of the C boundary. Without the sources the functions are there but answer
 //! nothing; [`LIVE`] tells.
 //!
-//! These sources are two packages: `oracle` finds the end of a string byte by byte, `oracle_memchr`
-//! by the crate memchr, as the published crate does, where rustc's own build of it can be taken;
-//! [`MEMCHR`] tells.
+//! These sources are several packages. In those named for memchr the end of a string is found by
+//! the crate memchr, as in the published crate, where rustc's own build of it can be taken
+//! ([`MEMCHR`] tells), in the others byte by byte. Otherwise they are the same, and each is there
+//! for one use: a function that two uses call may be compiled out of line, and both be slower.
 
 #![cfg_attr(real_memchr, feature(rustc_private))]
 

@@ -3,6 +3,7 @@
 //! a fault, a second pass over the stream finds its position.
 
 use crate::read::macho::{BindOperation, RebaseOperation};
+use crate::read::Bytes;
 use crate::streams::{bind_operations, rebase_operations};
 use crate::texts::number;
 use crate::Stream;
@@ -11,7 +12,7 @@ use crate::Stream;
 const SEGMENTS: usize = 16;
 const LARGEST: u64 = 1 << 62;
 /// Up to so many places of an operation are judged one by one, more of them by a division.
-const FEW: u64 = 8;
+const FEW: u64 = 4;
 
 /// The verdict on a stream, in the numbers of the C boundary: of a fault its number, position and
 /// index; of a pass 0, how many operations were read, and 0.
@@ -196,9 +197,8 @@ fn rebases(bytes: &[u8], mut now: Registers<'_>) -> Result<u64, Fault> {
 
 /// Done of a lazy stream puts all but the count back to the start.
 fn binds(bytes: &[u8], start: Registers<'_>, lazy: bool) -> Result<u64, Fault> {
-    let mut now = start;
     use BindOperation::*;
-    let mut operations = bind_operations(bytes);
+    let (mut now, mut operations) = (start, bind_operations(bytes));
     while let Some((_, operation)) = operations.next().map_err(|e| now.fault(number(e), 0))? {
         match operation {
             Done if lazy => {
@@ -230,24 +230,25 @@ fn binds(bytes: &[u8], start: Registers<'_>, lazy: bool) -> Result<u64, Fault> {
 
 /// Where an operation starts that has so many before it, all of which were read.
 fn position(stream: Stream, bytes: &[u8], before: u64) -> u64 {
-    let mut rest = bytes;
+    let mut rest = Bytes(bytes);
     for _ in 0..before {
-        rest = &rest[length(stream, rest)..];
+        skip(stream, &mut rest).expect("it was read before");
     }
     (bytes.len() - rest.len()) as u64
 }
 
-/// The bytes of the first operation: the fewest in which the parser reads one.
-fn length(stream: Stream, rest: &[u8]) -> usize {
-    let read = |length: &usize| match stream {
-        Stream::Rebase => rebase_operations(&rest[..*length]).next().is_ok(),
-        _ => bind_operations(&rest[..*length]).next().is_ok(),
+/// Skips an operation by its opcode, which tells its operands.
+fn skip(stream: Stream, rest: &mut Bytes<'_>) -> Result<(), ()> {
+    let opcode = rest.read::<u8>()? >> 4;
+    let numbers = match (stream, opcode) {
+        (Stream::Rebase, 2 | 3 | 6 | 7) => 1,
+        (Stream::Rebase, 8) => 2,
+        (Stream::Rebase, _) => 0,
+        (_, 4) => return rest.read_string().map(|_| ()),
+        (_, 6) => return rest.read_sleb128().map(|_| ()),
+        (_, 2 | 7 | 8 | 10) => 1,
+        (_, 12) => 2,
+        _ => 0,
     };
-    // A name may be long, and tells its length.
-    if stream != Stream::Rebase {
-        if let Ok(Some((_, BindOperation::SetSymbol { name, .. }))) = bind_operations(rest).next() {
-            return name.len() + 2;
-        }
-    }
-    (1..).find(read).expect("an operation has an end")
+    (0..numbers).try_for_each(|_| rest.read_uleb128().map(|_| ()))
 }
