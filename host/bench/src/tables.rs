@@ -174,7 +174,7 @@ fn with_memchr() -> Result<Table, String> {
         ours: "The library is called as in the tables above.",
         rust:
             "The published crate finds the end of a string by the crate memchr. So does the Rust \
-               in this table, by rustc's own build of it; in all others it looks byte by byte.",
+               in this table, by rustc's own build of it.",
         unit: "items or operations",
         rows: rows.into_iter().collect::<Result<_, _>>()?,
     })
