@@ -1,8 +1,9 @@
 //! Links liblaps.a, from the folder BRINETRELLIS_LIBRARY or from where `rt staticlib` writes it, and
-//! tells the package whether the Rust that it is timed against is at hand.
+//! tells the package how it is compiled.
 
 use std::env;
 use std::path::{Path, PathBuf};
+use std::process::Command;
 
 const VARIABLE: &str = "BRINETRELLIS_LIBRARY";
 
@@ -20,8 +21,31 @@ fn main() {
     } else {
         println!("cargo:warning=no {}: nothing links", archive.display());
     }
-    println!("cargo:rustc-check-cfg=cfg(live)");
-    if oracle::LIVE {
-        println!("cargo:rustc-cfg=live");
+    println!("cargo:rustc-env=BENCH_RUSTC={}", rustc());
+    println!("cargo:rustc-env=BENCH_COMPILED={}", compiled());
+}
+
+/// The compiler's version.
+fn rustc() -> String {
+    let rustc = env::var_os("RUSTC").expect("cargo sets it");
+    let said = Command::new(rustc).arg("--version").output();
+    let said = said.expect("rustc runs").stdout;
+    String::from_utf8_lossy(&said).trim().to_string()
+}
+
+/// How far the Rust is optimised. Cargo does not tell a build script of LTO: that it is asked for in
+/// the environment does.
+fn compiled() -> String {
+    let asked = |variable, value| {
+        println!("cargo:rerun-if-env-changed={variable}");
+        env::var(variable).as_deref() == Ok(value)
+    };
+    let level = env::var("OPT_LEVEL").expect("cargo sets it");
+    let fat = asked("CARGO_PROFILE_RELEASE_LTO", "fat");
+    let one = asked("CARGO_PROFILE_RELEASE_CODEGEN_UNITS", "1");
+    if fat && one && env::var("PROFILE").as_deref() == Ok("release") {
+        format!("at level {level} and as one module, by fat LTO")
+    } else {
+        format!("at level {level}, and not as one module")
     }
 }

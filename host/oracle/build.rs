@@ -6,6 +6,7 @@ use std::env;
 use std::fmt::Write;
 use std::fs;
 use std::path::{Path, PathBuf};
+use std::process::Command;
 
 /// A set of published sources: how a variable names its folder, where it is looked for, which files
 /// are needed.
@@ -133,9 +134,33 @@ fn modules(object40: &Path, object30: &Path, gimli: &Path) -> String {
     text
 }
 
+/// Whether the crate memchr is taken: in a package that is named for it, where rustc allows what is
+/// unstable, as is the use of its own crates, and has this one for the target.
+fn real_memchr() -> bool {
+    println!("cargo:rerun-if-env-changed=RUSTC_BOOTSTRAP");
+    let named = env::var("CARGO_PKG_NAME").is_ok_and(|name| name.starts_with("oracle_memchr"));
+    let unstable = env::var("RUSTC_BOOTSTRAP").is_ok_and(|value| value == "1");
+    named && unstable && in_sysroot("libmemchr-")
+}
+
+/// Whether rustc has a library whose file begins so.
+fn in_sysroot(beginning: &str) -> bool {
+    let variable = |name| env::var_os(name).expect("cargo sets it");
+    let mut rustc = Command::new(variable("RUSTC"));
+    rustc.args(["--print", "target-libdir", "--target"]);
+    let said = rustc.arg(variable("TARGET")).output();
+    let said = said.expect("rustc runs").stdout;
+    let files = fs::read_dir(String::from_utf8_lossy(&said).trim()).into_iter();
+    files.flatten().flatten().any(|file| {
+        let name = file.file_name().to_string_lossy().into_owned();
+        name.starts_with(beginning) && name.ends_with(".rlib")
+    })
+}
+
 fn main() {
-    println!("cargo:rerun-if-changed=build.rs");
-    println!("cargo:rustc-check-cfg=cfg(live)");
+    // Several packages have this file.
+    println!("cargo:rerun-if-changed=../oracle/build.rs");
+    println!("cargo:rustc-check-cfg=cfg(live, real_memchr)");
     println!("cargo:rustc-check-cfg=cfg(feature, values({FEATURES}))");
     let found = [CRATE.find(), OBJECT.find(), GIMLI.find()];
     let missing: Vec<&str> = found
@@ -149,6 +174,9 @@ fn main() {
         fs::write(folder.join("live.rs"), modules(object40, object30, gimli))
             .expect("OUT_DIR can be written");
         println!("cargo:rustc-cfg=live");
+        if real_memchr() {
+            println!("cargo:rustc-cfg=real_memchr");
+        }
         // The readers in gimli's file are under this feature of it.
         println!("cargo:rustc-cfg=feature=\"read-core\"");
     }

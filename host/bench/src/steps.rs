@@ -1,4 +1,5 @@
-//! The same sums, step by step through the C boundary: state and item are records of bytes.
+//! The same sums, step by step through the C boundary: state and item are records of bytes. And
+//! preflights, each of which is one call.
 
 use brinetrellis::{answer, raw, record};
 
@@ -63,21 +64,34 @@ pub fn pages(fixups: &[u8], contents: &[u8], base: u64) -> u64 {
     })
 }
 
-/// The answer of a preflight over three segments of one size.
-pub fn preflight_rebase(stream: &[u8], size: u8, room: u64) -> u64 {
-    let mut verdict = [0; record::VERDICT];
-    raw::preflight_rebase(stream, size.into(), &sizes(room), &mut verdict)
+pub fn segments(fixups: &[u8]) -> u64 {
+    let (mut state, mut item) = ([0; record::SEGMENT_STATE], [0; record::SEGMENT_ITEM]);
+    answered(raw::segment_start(fixups, &mut state));
+    sum(|| {
+        let answer = raw::segment_step(fixups, &mut state, &mut item);
+        (answer, word(&item, 3))
+    })
 }
 
-pub fn preflight_bind(stream: &[u8], size: u8, room: u64) -> u64 {
-    let mut verdict = [0; record::VERDICT];
-    raw::preflight_plain(stream, size.into(), &sizes(room), &mut verdict)
+pub fn imports(fixups: &[u8]) -> u64 {
+    let (mut state, mut item) = ([0; record::IMPORT_STATE], [0; record::IMPORT_ITEM]);
+    answered(raw::import_start(fixups, &mut state));
+    sum(|| {
+        let answer = raw::import_step(fixups, &mut state, &mut item);
+        (answer, word(&item, 4))
+    })
 }
 
-fn sizes(room: u64) -> [u8; 24] {
-    let mut sizes = [0; 24];
-    for size in sizes.chunks_exact_mut(8) {
-        size.copy_from_slice(&room.to_le_bytes());
-    }
-    sizes
+/// The verdict of a preflight: its number, and the two words of its record.
+pub fn preflight_rebase(stream: &[u8], size: u8, sizes: &[u8]) -> [u64; 3] {
+    verdict(|record| raw::preflight_rebase(stream, size.into(), sizes, record))
+}
+
+pub fn preflight_plain(stream: &[u8], size: u8, sizes: &[u8]) -> [u64; 3] {
+    verdict(|record| raw::preflight_plain(stream, size.into(), sizes, record))
+}
+
+fn verdict(call: impl FnOnce(&mut [u8]) -> u64) -> [u64; 3] {
+    let mut record = [0; record::VERDICT];
+    [call(&mut record), word(&record, 0), word(&record, 1)]
 }

@@ -6,6 +6,7 @@ use crate::ours::{self, Breach};
 use crate::ours_trie::Desk;
 use crate::preflight;
 use crate::tally::Tally;
+use crate::three::{self, Three};
 use crate::trie_reading::{self, Limits, CUT};
 use oracle::Answers;
 
@@ -110,13 +111,36 @@ impl Bench {
     /// Judges a case; whether there was an answer and it was the same.
     pub fn judge(&mut self, case: Case<'_>) -> bool {
         self.cases += 1;
-        if !ask(&case, &mut self.expected) {
+        let asked = ask(&case, &mut self.expected);
+        if asked {
+            self.refusals.add(&case, &self.expected);
+        } else {
             self.skipped += 1;
+        }
+        if let Some(plain) = three::plain(&case) {
+            return self.judge_three(&case, asked, plain) && asked;
+        }
+        if !asked {
             return false;
         }
-        self.refusals.add(&case, &self.expected);
         let breach = ours::run(&case, &mut self.desk, &mut self.answered);
         self.settle(breach, || case.text())
+    }
+
+    /// Compares the verdict of a plain Rust preflight with the two others.
+    fn judge_three(&mut self, case: &Case<'_>, asked: bool, plain: [u64; 3]) -> bool {
+        let breach = ours::run(case, &mut self.desk, &mut self.answered);
+        let verdicts = Three {
+            library: &self.answered.words,
+            by_place: asked.then_some(&self.expected.words),
+            plain,
+        };
+        let Some(reason) = breach.or_else(|| verdicts.odd()) else {
+            return true;
+        };
+        let text = format!("{reason}: {}\n  {}", case.text(), verdicts.text());
+        self.differ(|| text);
+        false
     }
 
     /// The same for a trie whose calls have various limits.

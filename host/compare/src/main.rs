@@ -1,4 +1,4 @@
-//! Compares the reader with the crate object 0.40.0.
+//! Compares the reader with the crate object 0.40.0, and its preflight with a plain one in Rust.
 //!
 //! - `compare fuzz CASES [SEED]` puts cases to both.
 //! - `compare record FILE` writes cases with the crate's answers.
@@ -27,6 +27,7 @@ mod sections;
 mod starts;
 mod states;
 mod tally;
+mod three;
 mod trie_reading;
 
 use std::env;

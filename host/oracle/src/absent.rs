@@ -47,3 +47,42 @@ impl Places<'_> {
         Ok(None)
     }
 }
+
+pub fn preflight(_: Stream, _: &[u8], _: u64, _: &[u64]) -> [u64; 3] {
+    [0; 3]
+}
+
+/// Nothing is timed.
+pub mod sums {
+    pub fn rebase(_: &[u8], _: u8) -> u64 {
+        0
+    }
+
+    pub fn bind(_: &[u8], _: u8) -> u64 {
+        0
+    }
+
+    pub fn trie(_: &[u8]) -> u64 {
+        0
+    }
+
+    pub fn pages(_: &[u8], _: &[u8], _: u64) -> u64 {
+        0
+    }
+
+    pub fn segments(_: &[u8]) -> u64 {
+        0
+    }
+
+    pub fn imports(_: &[u8]) -> u64 {
+        0
+    }
+
+    pub fn visit_rebases(_: &[u8], _: u8, _: &[u64]) -> u64 {
+        0
+    }
+
+    pub fn visit_binds(_: &[u8], _: u8, _: &[u64]) -> u64 {
+        0
+    }
+}

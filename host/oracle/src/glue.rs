@@ -49,19 +49,17 @@ thread_local! {
     static NUMBER_FAILED: Cell<bool> = const { Cell::new(false) };
 }
 
-/// Whether the last LEB128 number read was faulty: the crate has one text for a child offset that
-/// is faulty and for one that is open.
+/// Whether a LEB128 number was faulty since this was asked last: the crate has one text for a child
+/// offset that is faulty and for one that is open.
 pub fn number_failed() -> bool {
-    NUMBER_FAILED.get()
+    NUMBER_FAILED.take()
 }
 
 // Like the other methods of `Bytes`: their callers have texts for what fails.
 #[allow(clippy::result_unit_err)]
 impl Bytes<'_> {
     pub fn read_uleb128(&mut self) -> core::result::Result<u64, ()> {
-        let number = leb128::read::unsigned(self);
-        NUMBER_FAILED.set(number.is_err());
-        number.map_err(|_| ())
+        leb128::read::unsigned(self).map_err(|_| NUMBER_FAILED.set(true))
     }
 
     pub fn read_sleb128(&mut self) -> core::result::Result<i64, ()> {
@@ -69,7 +67,8 @@ impl Bytes<'_> {
     }
 }
 
-/// What object 0.30.0 takes from the crate of this name: the first place of a byte.
+/// Stands in for what object 0.30.0 takes from the crate of this name: the first place of a byte.
+#[cfg(not(real_memchr))]
 pub fn memchr(needle: u8, haystack: &[u8]) -> Option<usize> {
     haystack.iter().position(|byte| *byte == needle)
 }

@@ -5,10 +5,19 @@
 //! Each function takes the bytes of one walk and notes what the crate answers, call after call,
 //! with the numbers of the C boundary. Without the sources the functions are there but answer
 //! nothing; [`LIVE`] tells.
+//!
+//! These sources are several packages. In those named for memchr the end of a string is found by
+//! the crate memchr, as in the published crate, where rustc's own build of it can be taken
+//! ([`MEMCHR`] tells), in the others byte by byte. Otherwise they are the same, and each is there
+//! for one use: a function that two uses call may be compiled out of line, and both be slower.
+
+#![cfg_attr(real_memchr, feature(rustc_private))]
 
 // Both names are needed by the foreign files: `alloc` as a path, `memchr` as a crate.
 extern crate alloc;
-#[cfg(live)]
+#[cfg(real_memchr)]
+extern crate memchr;
+#[cfg(all(live, not(real_memchr)))]
 extern crate self as memchr;
 
 mod answers;
@@ -19,6 +28,9 @@ pub const LIVE: bool = cfg!(live);
 
 /// Which of the published sources were missing at the build; empty where none.
 pub const MISSING: &str = env!("ORACLE_MISSING");
+
+/// Whether the end of a string is found by the crate memchr.
+pub const MEMCHR: bool = cfg!(real_memchr);
 
 // The foreign modules stand first: the others use their macros.
 #[cfg(live)]
@@ -33,15 +45,19 @@ mod macho;
 #[cfg(live)]
 mod operations;
 #[cfg(live)]
+mod plain;
+#[cfg(live)]
 mod streams;
+#[cfg(live)]
+pub mod sums;
 #[cfg(live)]
 mod texts;
 #[cfg(live)]
 mod trie;
 #[cfg(live)]
-pub use {chains::*, operations::*, streams::*, trie::*};
+pub use {chains::*, operations::*, plain::*, streams::*, trie::*};
 
-#[cfg(live)]
+#[cfg(all(live, not(real_memchr)))]
 pub use glue::memchr;
 #[cfg(live)]
 use read::ReadRef;

@@ -1,9 +1,8 @@
 //! Single operations and places as the crate reads them, for a preflight that is found place by
 //! place.
 
-use crate::endian::LittleEndian;
 use crate::read::macho::{BindIterator, BindOperation, RebaseIterator, RebaseOperation};
-use crate::streams::{binds, command, rebases};
+use crate::streams::{bind_operations, binds, rebase_operations, rebases};
 use crate::texts::number;
 use crate::Stream;
 
@@ -21,12 +20,8 @@ pub enum Operation {
 /// The operation that the crate reads first in some bytes, which are not empty, or the number of
 /// its error.
 pub fn operation(stream: Stream, bytes: &[u8]) -> Result<Operation, u64> {
-    let all = command(bytes.len());
     if stream == Stream::Rebase {
-        let read = all
-            .rebase_operations(LittleEndian, bytes)
-            .expect("the part is there")
-            .next();
+        let read = rebase_operations(bytes).next();
         let (_, operation) = read.map_err(number)?.expect("there are bytes");
         return Ok(match operation {
             RebaseOperation::Done => Operation::Done,
@@ -36,10 +31,7 @@ pub fn operation(stream: Stream, bytes: &[u8]) -> Result<Operation, u64> {
             _ => Operation::Other,
         });
     }
-    let read = all
-        .bind_operations(LittleEndian, bytes)
-        .expect("the part is there")
-        .next();
+    let read = bind_operations(bytes).next();
     let (_, operation) = read.map_err(number)?.expect("there are bytes");
     match operation {
         BindOperation::Done if stream != Stream::Lazy => Ok(Operation::Done),

@@ -2,7 +2,8 @@
 
 use crate::endian::{LittleEndian, U32};
 use crate::macho::DyldInfoCommand;
-use crate::read::macho::{Bind, BindIterator, Rebase, RebaseIterator};
+use crate::read::macho::{Bind, BindIterator, BindOperationIterator};
+use crate::read::macho::{Rebase, RebaseIterator, RebaseOperationIterator};
 use crate::texts::number;
 use crate::{Answers, Bounds, Stream, END};
 
@@ -39,6 +40,19 @@ pub(crate) fn binds(stream: Stream, bytes: &[u8], pointer_size: u8) -> BindItera
         _ => all.binds(LittleEndian, bytes, pointer_size),
     };
     walk.expect("the part is there")
+}
+
+/// The crate's own parsers of operations.
+pub(crate) fn rebase_operations(bytes: &[u8]) -> RebaseOperationIterator<'_> {
+    let all = command(bytes.len());
+    all.rebase_operations(LittleEndian, bytes)
+        .expect("the part is there")
+}
+
+pub(crate) fn bind_operations(bytes: &[u8]) -> BindOperationIterator<'_> {
+    let all = command(bytes.len());
+    all.bind_operations(LittleEndian, bytes)
+        .expect("the part is there")
 }
 
 /// The words of a rebase: segment, offset, type.

@@ -1,6 +1,7 @@
 //! The crate's walk over the exports.
 
 use crate::endian::LittleEndian;
+use crate::glue::number_failed;
 use crate::read::macho::{ExportData, ExportSymbol};
 use crate::streams::{command, place};
 use crate::texts::number;
@@ -48,6 +49,8 @@ fn words(bytes: &[u8], export: &ExportSymbol<'_>) -> [u64; 8] {
 /// not too large to walk: nodes may be shared.
 pub fn trie(bytes: &[u8], answers: &mut Answers) {
     answers.clear();
+    // A number that failed in another walk is none of this one's.
+    number_failed();
     let mut walk = command(bytes.len())
         .exports_trie(LittleEndian, bytes)
         .expect("the part is there");
