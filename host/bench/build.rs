@@ -1,17 +1,14 @@
-//! Links liblaps.a, from the folder BRINETRELLIS_LIBRARY or from where `rt staticlib` writes it, and
-//! tells the package how it is compiled.
+//! Links liblaps.a, from the folder BRINETRELLIS_LIBRARY, which `.ci/host bench` sets, and tells the
+//! package how it is compiled.
 
 use std::env;
-use std::path::{Path, PathBuf};
+use std::path::PathBuf;
 use std::process::Command;
 
 const VARIABLE: &str = "BRINETRELLIS_LIBRARY";
 
 fn main() {
-    let folder = match env::var_os(VARIABLE) {
-        Some(folder) => PathBuf::from(folder),
-        None => Path::new(env!("CARGO_MANIFEST_DIR")).join("../../target/staticlib"),
-    };
+    let folder = PathBuf::from(env::var_os(VARIABLE).unwrap_or_default());
     let archive = folder.join("liblaps.a");
     println!("cargo:rerun-if-env-changed={VARIABLE}");
     println!("cargo:rerun-if-changed={}", archive.display());

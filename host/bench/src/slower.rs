@@ -44,17 +44,13 @@ pub fn text(tables: &[Timed]) -> [String; 2] {
 fn of_table(timed: &Timed) -> String {
     let (slow, table) = (slow(timed), &timed.0);
     let (title, rows) = (table.title, table.rows.len());
-    let Some(row) = most(&slow) else {
-        return format!("{title}: in none of {rows} rows.");
-    };
-    let list: Vec<String> = slow
-        .iter()
-        .map(|row| format!("{} ({})", row.what, short(row.ratio)))
-        .collect();
-    format!(
-        "{title}: in {} of {rows} rows, at most {} times as long: {}.",
-        slow.len(),
-        short(row.ratio),
-        list.join("; ")
-    )
+    match most(&slow) {
+        Some(row) => format!(
+            "{title}: in {} of {rows} rows, at most {} times as long: {}.",
+            slow.len(),
+            short(row.ratio),
+            row.what
+        ),
+        None => format!("{title}: in none of {rows} rows."),
+    }
 }

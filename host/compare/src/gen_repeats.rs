@@ -16,16 +16,17 @@ fn before(stream: Stream) -> &'static [u8] {
     }
 }
 
-/// How far the places are apart, and how many there are: all of them within the largest size.
+/// How far the places are apart, and how many there are: mostly all of them within the largest size.
 fn steps(random: &mut Random, width: u64) -> (u64, u64) {
     let step = match random.below(6) {
         0 => random.below(3) as u64,
         1 => width,
-        _ => (1 << random.below(62)) + random.below(3) as u64,
+        _ => (1 << random.below(64)) + random.below(3) as u64,
     };
     let most = (LARGEST - width).checked_div(step).unwrap_or(u64::MAX >> 1) + 1;
-    let count = 1 + (random.next() >> random.below(64));
-    (step, count.min(most))
+    let count = (random.next() >> random.below(64)).max(1);
+    let any = random.once_in(8);
+    (step, if any { count } else { count.min(most) })
 }
 
 /// Makes a stream and gives the size of its segment, which is 2.
