@@ -14,6 +14,7 @@ use Rattle.numbers.specs.Digits.{fromDigits}
 use Rattle.numbers.specs.Leb128.{isLast, bytesAt, tenth, ulebOf, ulebAt, slebOf, slebAt}
 use Rattle.numbers.specs.LittleEndian.{littleEndian, fieldAt}
 use Rattle.numbers.specs.Parts.{partOf}
+use Rattle.numbers.specs.Passed.{behind}
 use Rattle.numbers.specs.Spans.{Span, span, unended, inFront, spanTo}
 use Rattle.numbers.specs.Strings.{isNul, stringOf, stringAt}
 use Rattle.numbers.specs.declared.Number.the-variants as number
@@ -24,7 +25,7 @@ use Rattle.numbers.specs.declared.leb128.Unsigned.the-variants as unsign
 use Rattle.numbers.specs.declared.strings.Text.{Text}
 use Rattle.numbers.specs.declared.strings.Text.the-variants as string
 use Rattle.numbers.proofs.Picks.{by-pick}
-use Rattle.numbers.proofs.Spans.{behind, behind-none, goes-before, is-span, length-snoc}
+use Rattle.numbers.proofs.Spans.{behind-none, goes-before, is-span, length-snoc}
 
 -- ---- bytes that are the same up to a place
 

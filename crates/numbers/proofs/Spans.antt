@@ -7,15 +7,11 @@ use native.Mathlib.Numerals.{add-one}
 use native.Mathlib.Omega.{arith}
 use lib.ListN.{length, getD, drop, length-append, drop-of-length-le}
 use lib.Seq.{append-snoc, drop-cons}
+use Rattle.numbers.specs.Passed.{Passed, behind}
 use Rattle.numbers.specs.Spans.{Span, span, unended, inFront, spanTo}
 
 pub length-snoc : (bs : List ℕ) (b : ℕ) → length (bs ++ (b ∷ [])) ≡ length bs + 1
 length-snoc bs b = length-append bs (b ∷ [])
-
--- a span behind other bytes
-abbrev pub behind : List ℕ → Span → Span
-behind ps (span bs) = span (ps ++ bs)
-behind ps unended = unended
 
 pub behind-none : (x : Span) → behind [] x ≡ x
 behind-none (span bs) = refl
@@ -40,12 +36,7 @@ module _ (ends : ℕ → Bool) (s : List ℕ) (at : ℕ) where
   unfolding spanTo
   goes-on h e = rw (drop-cons s at 0 h, e, add-one at)
 
--- ---- a span as a loop reads it: the bytes from `from` up to `at` have passed, and none has ended it
-
-pub record Passed (ends : ℕ → Bool) (s : List ℕ) (from at : ℕ) : Type 0 where
-  pub passed : List ℕ
-  pub place : at ≡ from + length passed
-  pub rest : spanTo ends (drop from s) ≡ behind passed (spanTo ends (drop at s))
+-- ---- a span as a loop reads it
 
 abbrev pub none-passed : (ends : ℕ → Bool) (s : List ℕ) (from : ℕ) → Passed ends s from from
 none-passed ends s from =

@@ -4,5 +4,6 @@ pub mod Leb128
 pub mod Gathered
 pub mod LittleEndian
 pub mod Strings
+pub mod Passed
 pub mod Parts
 pub mod Then

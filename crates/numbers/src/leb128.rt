@@ -17,8 +17,27 @@ pub enum Signed {
     Fault,
 }
 
-// The unsigned number at a place.
+// The unsigned number at a place. Most have one byte, and nearly all of the others two.
 pub fn read_uleb(s: &[u8], at: usize) -> Unsigned
+    ensures { λ r. ⌜ r ≡ ulebAt (now (s .entry)) at ⌝ }
+{
+    if at < s.len() {
+        let first = s[at];
+        if first < 128 {
+            return Unsigned::Value(first as u64, at + 1);
+        }
+        if at + 1 < s.len() {
+            let second = s[at + 1];
+            if second < 128 {
+                return Unsigned::Value(((first % 128) as u64) + (second as u64) * 128, at + 2);
+            }
+        }
+    }
+    read_long(s, at)
+}
+
+// The unsigned number at a place, of any length.
+fn read_long(s: &[u8], at: usize) -> Unsigned
     ensures { λ r. ⌜ r ≡ ulebAt (now (s .entry)) at ⌝ }
 {
     match gather(s, at) {

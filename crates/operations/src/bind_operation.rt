@@ -78,42 +78,43 @@ impl BindOperation {
                 let ordinal = imm as u64;
                 Parse::Operation(Op::SetDylibOrdinal { ordinal }, at + 1)
             }
-            2 => match read_uleb(s, at + 1) {
-                Unsigned::Value(ordinal, next) => Parse::Operation(
-                    Op::SetDylibOrdinal { ordinal },
-                    next,
-                ),
-                Unsigned::Fault => Parse::Refused(Refusal::FaultyOperand),
-            },
+            2 => {
+                let Unsigned::Value(ordinal, next) = read_uleb(s, at + 1) else {
+                    return Parse::Refused(Refusal::FaultyOperand);
+                };
+                Parse::Operation(Op::SetDylibOrdinal { ordinal }, next)
+            }
             3 => {
                 let ordinal = special(imm);
                 Parse::Operation(Op::SetDylibSpecial { ordinal }, at + 1)
             }
             4 => symbol(s, at + 1, imm),
             5 => Parse::Operation(Op::SetType { kind: imm }, at + 1),
-            6 => match read_sleb(s, at + 1) {
-                Signed::Value(addend, next) => Parse::Operation(Op::SetAddend { addend }, next),
-                Signed::Fault => Parse::Refused(Refusal::FaultyOperand),
-            },
-            7 => match read_uleb(s, at + 1) {
-                Unsigned::Value(offset, next) => Parse::Operation(
-                    Op::SetSegmentAndOffset { index: imm, offset },
-                    next,
-                ),
-                Unsigned::Fault => Parse::Refused(Refusal::FaultyOperand),
-            },
-            8 => match read_uleb(s, at + 1) {
-                Unsigned::Value(offset, next) => Parse::Operation(Op::AddAddr { offset }, next),
-                Unsigned::Fault => Parse::Refused(Refusal::FaultyOperand),
-            },
+            6 => {
+                let Signed::Value(addend, next) = read_sleb(s, at + 1) else {
+                    return Parse::Refused(Refusal::FaultyOperand);
+                };
+                Parse::Operation(Op::SetAddend { addend }, next)
+            }
+            7 => {
+                let Unsigned::Value(offset, next) = read_uleb(s, at + 1) else {
+                    return Parse::Refused(Refusal::FaultyOperand);
+                };
+                Parse::Operation(Op::SetSegmentAndOffset { index: imm, offset }, next)
+            }
+            8 => {
+                let Unsigned::Value(offset, next) = read_uleb(s, at + 1) else {
+                    return Parse::Refused(Refusal::FaultyOperand);
+                };
+                Parse::Operation(Op::AddAddr { offset }, next)
+            }
             9 => Parse::Operation(Op::DoBind, at + 1),
-            10 => match read_uleb(s, at + 1) {
-                Unsigned::Value(offset, next) => Parse::Operation(
-                    Op::DoBindAddAddr { offset },
-                    next,
-                ),
-                Unsigned::Fault => Parse::Refused(Refusal::FaultyOperand),
-            },
+            10 => {
+                let Unsigned::Value(offset, next) = read_uleb(s, at + 1) else {
+                    return Parse::Refused(Refusal::FaultyOperand);
+                };
+                Parse::Operation(Op::DoBindAddAddr { offset }, next)
+            }
             11 => Parse::Operation(Op::DoBindAddAddrScaled { count: imm }, at + 1),
             12 => times_skipping(s, at + 1),
             13..=255 => Parse::Refused(Refusal::UnknownOpcode),
@@ -125,21 +126,20 @@ impl BindOperation {
 fn symbol(s: &[u8], at: usize, flags: u8) -> BindParse
     ensures { λ r. ⌜ bindTold r ≡ operandsAt (now (s .entry)) at (string (SetSymbol flags)) ⌝ }
 {
-    match read_string(s, at) {
-        Text::Found {
-            start: place,
-            len: length,
-            next,
-        } => {
-            let op = Op::SetSymbol {
-                flags,
-                place,
-                length,
-            };
-            Parse::Operation(op, next)
-        }
-        Text::Fault => Parse::Refused(Refusal::FaultyOperand),
-    }
+    let Text::Found {
+        start: place,
+        len: length,
+        next,
+    } = read_string(s, at)
+    else {
+        return Parse::Refused(Refusal::FaultyOperand);
+    };
+    let op = Op::SetSymbol {
+        flags,
+        place,
+        length,
+    };
+    Parse::Operation(op, next)
 }
 
 // The library that a special immediate stands for.

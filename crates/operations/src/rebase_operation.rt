@@ -41,30 +41,32 @@ impl RebaseOperation {
         match opcode {
             0 => Parse::Operation(Op::Done, at + 1),
             1 => Parse::Operation(Op::SetType { kind: imm }, at + 1),
-            2 => match read_uleb(s, at + 1) {
-                Unsigned::Value(offset, next) => Parse::Operation(
-                    Op::SetSegmentAndOffset { index: imm, offset },
-                    next,
-                ),
-                Unsigned::Fault => Parse::Refused(Refusal::FaultyOperand),
-            },
-            3 => match read_uleb(s, at + 1) {
-                Unsigned::Value(offset, next) => Parse::Operation(Op::AddAddr { offset }, next),
-                Unsigned::Fault => Parse::Refused(Refusal::FaultyOperand),
-            },
+            2 => {
+                let Unsigned::Value(offset, next) = read_uleb(s, at + 1) else {
+                    return Parse::Refused(Refusal::FaultyOperand);
+                };
+                Parse::Operation(Op::SetSegmentAndOffset { index: imm, offset }, next)
+            }
+            3 => {
+                let Unsigned::Value(offset, next) = read_uleb(s, at + 1) else {
+                    return Parse::Refused(Refusal::FaultyOperand);
+                };
+                Parse::Operation(Op::AddAddr { offset }, next)
+            }
             4 => Parse::Operation(Op::AddAddrScaled { count: imm }, at + 1),
             5 => Parse::Operation(Op::DoRebaseTimes { count: imm as u64 }, at + 1),
-            6 => match read_uleb(s, at + 1) {
-                Unsigned::Value(count, next) => Parse::Operation(Op::DoRebaseTimes { count }, next),
-                Unsigned::Fault => Parse::Refused(Refusal::FaultyOperand),
-            },
-            7 => match read_uleb(s, at + 1) {
-                Unsigned::Value(offset, next) => Parse::Operation(
-                    Op::DoRebaseAddAddr { offset },
-                    next,
-                ),
-                Unsigned::Fault => Parse::Refused(Refusal::FaultyOperand),
-            },
+            6 => {
+                let Unsigned::Value(count, next) = read_uleb(s, at + 1) else {
+                    return Parse::Refused(Refusal::FaultyOperand);
+                };
+                Parse::Operation(Op::DoRebaseTimes { count }, next)
+            }
+            7 => {
+                let Unsigned::Value(offset, next) = read_uleb(s, at + 1) else {
+                    return Parse::Refused(Refusal::FaultyOperand);
+                };
+                Parse::Operation(Op::DoRebaseAddAddr { offset }, next)
+            }
             8 => times_skipping(s, at + 1),
             9..=255 => Parse::Refused(Refusal::UnknownOpcode),
         }

@@ -12,7 +12,8 @@ use Rattle.numbers.specs.Gathered.{gathered, gatheredAt}
 use Rattle.numbers.specs.Leb128.{isLast, tenth, unsigned}
 use Rattle.numbers.specs.Spans.{Span, span, unended, spanTo}
 use Rattle.numbers.specs.declared.leb128.Gathered.the-variants.{Few, Ten, Cut}
-use Rattle.numbers.proofs.Spans.{Passed, behind, length-snoc, none-passed, one-passed, runs-out, span-ends}
+use Rattle.numbers.specs.Passed.{Passed, behind}
+use Rattle.numbers.proofs.Spans.{length-snoc, none-passed, one-passed, runs-out, span-ends}
 use Rattle.numbers.proofs.leb128.Chunks.{Worth, none-worth, one-more, sum-below, scale-small, nine-passed, eight-passed}
 
 -- ---- what is gathered of a span, by its length

@@ -1,9 +1,10 @@
 -- The unsigned number, from its chunks. Assumes nothing.
-use Prim.Native.Nat.{ℕ, _+_, _*_, _^_, _≤_, _<_}
+use Prim.Native.Nat.{ℕ, _+_, _*_, _%_, _^_, _≤_, _<_}
 use mathlib.Core.Path.{_≡_, refl, ap, sym, _∙_}
 use mathlib.Core.List.{List}
 use native.Mathlib.Omega.{arith}
 use borrow.Author.Tests.{lt-ltb, le-ltb}
+use lib.ListN.{length, getD}
 use mir.Syntax.{w64}
 use mir.Val.{Fits}
 use Rattle.numbers.specs.Leb128.{tenth, bytesAt, ulebOf, ulebAt}
@@ -13,6 +14,7 @@ use Rattle.numbers.specs.declared.leb128.Gathered.{Gathered}
 use Rattle.numbers.specs.declared.leb128.Gathered.the-variants.{Few, Ten, Cut}
 use Rattle.numbers.specs.declared.leb128.Unsigned.the-variants.{Value, Fault}
 use Rattle.numbers.proofs.leb128.Chunks.{sum-below}
+use Rattle.numbers.proofs.leb128.Gathering.{none-held, is-few, is-more}
 use Rattle.numbers.proofs.leb128.Views.{SeenFew, SeenTen, IsCut, value-is, next-is, no-tenth, tenth-is, seen, few-sum, few-product}
 
 no-uleb : (at : ℕ) (x : Span) → IsCut x → Fault ≡ ulebOf at x
@@ -48,5 +50,24 @@ module _ (s : List ℕ) (at : ℕ) {r : Gathered} (g : r ≡ gatheredAt s at) wh
 
     pub ten-fits : last < 2 → Fits w64 (low + last * 2 ^ 63)
     ten-fits h = record { fits = sum-below (ten .seen .worth) h }
+
+-- ---- numbers of one byte and of two
+
+module _ (s : List ℕ) (at : ℕ) (h : at < length s) where
+  pub one-byte : getD s at 0 < 128 → Value (getD s at 0) (at + 1) ≡ ulebAt s at
+  one-byte b =
+      let n : getD s at 0 ≡ 0 + getD s at 0 * 1 = omega arith in
+      ap (λ (x : ℕ). Value x (at + 1)) n ∙ few-uleb s at refl (sym (is-few (none-held s at) h (λ e. omega (arith, e)) b))
+
+  pub two-bytes :
+      128 ≤ getD s at 0 → at + 1 < length s → getD s (at + 1) 0 < 128 →
+      Value (getD s at 0 % 128 + getD s (at + 1) 0 * 128) (at + 2) ≡ ulebAt s at
+  two-bytes a k b =
+      let n : getD s at 0 % 128 + getD s (at + 1) 0 * 128 ≡ 0 + getD s at 0 % 128 * 1 + getD s (at + 1) 0 * (1 * 128) = omega arith in
+      let p : at + 2 ≡ at + 1 + 1 = omega arith in
+      (λ j. Value (n j) (p j)) ∙
+      few-uleb s at refl (sym (is-few (is-more (none-held s at) h (λ e. omega (arith, e)) a) k (λ e. omega (arith, e)) b))
+
+pub ruleset short-laws = (one-byte, two-bytes)
 
 pub ruleset uleb-laws = (cut-uleb, few-uleb, few-sum, few-product, ten-uleb, ten-large, ten-fits)

@@ -2,8 +2,8 @@
 use Prim.Native.Nat.{_-_}
 use native.Mathlib.Omega.{arith}
 use lib.ListN.{length}
+use Rattle.numbers.specs.Passed.{Passed}
 use Rattle.numbers.specs.Strings.{isNul}
-use Rattle.numbers.proofs.Spans.{Passed}
 use Rattle.numbers.proofs.strings.Nuls.{string-laws}
 use Rattle.numbers.proofs.strings.read_string.Statement.{statement}
 use Rattle.numbers.proofs.strings.read_string.Tie as tie
@@ -20,6 +20,7 @@ read-string-spec =
     (tie.spec
     Inv-loop
     μ-loop
+    (λ c κs. search (string-laws, arith))
     (λ c. search (string-laws, arith))
     (λ c. search (string-laws, arith))
     (λ c. search (string-laws, arith))
