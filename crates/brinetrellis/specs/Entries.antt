@@ -11,14 +11,12 @@ use Rattle.listing.specs.Call as listing
 use Rattle.packed_bind.specs.Packed as bind
 use Rattle.packed_imports.specs.Packed as import
 use Rattle.packed_pages.specs.Packed as page
-use Rattle.packed_preflight.specs.Packed.{flown}
 use Rattle.packed_rebase.specs.Packed as rebase
 use Rattle.packed_segments.specs.Packed as segment
 use Rattle.packed_trie.specs.Packed as exports
 use Rattle.packing.specs.Boundary.{itemTold, unfit, started, stepped}
 use Rattle.packing.specs.Words.{bytesOf}
 use Rattle.pages.specs.Call as pages
-use Rattle.preflight.specs.Verdict.{preflight}
 use Rattle.rebase.specs.Rebases.{unset, rebases}
 use Rattle.runs.specs.Runs.{begun}
 use Rattle.trie.specs.Call.{atStart}
@@ -44,20 +42,6 @@ bindLazy size state = started bind.states state (listing.begin size lazily)
 
 abbrev pub bindStep : (stream state item : List ℕ) → ℕ × List ℕ × List ℕ
 bindStep stream state item = stepped bind.states bind.items state item (listing.call binds stream)
-
--- ---- preflights
-
-abbrev pub preflightRebase : (stream : List ℕ) (size : ℕ) (sizes verdict : List ℕ) → ℕ × List ℕ
-preflightRebase stream size sizes verdict = flown (preflight rebases unset) stream size sizes verdict
-
-abbrev pub preflightPlain : (stream : List ℕ) (size : ℕ) (sizes verdict : List ℕ) → ℕ × List ℕ
-preflightPlain stream size sizes verdict = flown (preflight binds plainly) stream size sizes verdict
-
-abbrev pub preflightWeak : (stream : List ℕ) (size : ℕ) (sizes verdict : List ℕ) → ℕ × List ℕ
-preflightWeak stream size sizes verdict = flown (preflight binds weakly) stream size sizes verdict
-
-abbrev pub preflightLazy : (stream : List ℕ) (size : ℕ) (sizes verdict : List ℕ) → ℕ × List ℕ
-preflightLazy stream size sizes verdict = flown (preflight binds lazily) stream size sizes verdict
 
 -- ---- the exports trie
 

@@ -1,6 +1,7 @@
-// Preflights.
+// The preflights as C sees them: numbers and byte slices go in, and a number comes out. What each function answers and
+// writes is in specs/Entries.antt, a definition to a function.
 ghost use mathlib.Core.Path.{_≡_};
-ghost use Rattle.brinetrellis.specs.Entries.{preflightRebase, preflightPlain, preflightWeak, preflightLazy};
+ghost use Rattle.flights.specs.Entries.{preflightRebase, preflightPlain, preflightWeak, preflightLazy};
 
 #[no_mangle]
 pub extern "C" fn brinetrellis_preflight_rebase(
