@@ -4,6 +4,7 @@ use crate::growth::Growth;
 use crate::markdown::{bullet, paragraph, short, table, whole};
 use crate::tables::Table;
 use crate::timing::{Times, ROUNDS};
+use crate::was::Was;
 use crate::{curves, slower};
 use std::env;
 
@@ -43,10 +44,11 @@ const STRINGS: &str = "\
     The Rust finds the end of a string byte by byte, except in rows that are said to have memchr.";
 
 /// Its parts, with an empty line between them.
-pub fn page(tables: &[Timed], growths: &[Grown]) -> String {
+pub fn page(tables: &[Timed], growths: &[Grown], was: Option<&Was>) -> String {
     let mut parts = vec!["# Benchmarks\n".to_string(), paragraph(&told())];
     parts.extend(method().iter().map(|text| paragraph(text)));
-    parts.extend(tables.iter().flat_map(section));
+    parts.extend(was.map(|was| paragraph(&before(was))));
+    parts.extend(tables.iter().flat_map(|table| section(table, was)));
     if oracle::LIVE && !oracle_memchr::MEMCHR {
         parts.push(paragraph(NO_MEMCHR));
     }
@@ -97,19 +99,28 @@ fn method() -> Vec<String> {
     ]
 }
 
-fn section((of, times): &Timed) -> [String; 3] {
+fn before(was: &Was) -> String {
+    format!(
+        "The column 'was' has the ratios of {}, from a program of its own that ran right before this one.",
+        was.name
+    )
+}
+
+fn section((of, times): &Timed, was: Option<&Was>) -> [String; 3] {
     let rows = of.rows.iter().zip(times).map(|(row, times)| {
         let each = |time: f64| short(time / row.items as f64);
         let mut cells = vec![row.what.clone(), whole(row.items), each(times.ours)];
         cells.extend(times.rust.map(each));
         cells.extend(times.ratio().map(short));
+        cells.extend(was.map(|was| was.ratio(of, &row.what).to_string()));
         cells
     });
-    let heads = ["what", of.unit, "ours, ns", "Rust, ns", "ratio"];
-    let (heads, text) = if oracle::LIVE {
-        (&heads[..], format!("{} {}", of.ours, of.rust))
-    } else {
-        (&heads[..3], of.ours.to_string())
-    };
-    [heading(of.title), paragraph(&text), table(heads, rows)]
+    let mut heads = vec!["what", of.unit, "ours, ns"];
+    let mut text = of.ours.to_string();
+    if oracle::LIVE {
+        heads.extend(["Rust, ns", "ratio"]);
+        text = format!("{text} {}", of.rust);
+    }
+    heads.extend(was.map(|_| "was"));
+    [heading(of.title), paragraph(&text), table(&heads, rows)]
 }

@@ -78,6 +78,15 @@ pub fn gaps(places: u64) -> Vec<u8> {
     })
 }
 
+/// The same with gaps of two bytes.
+pub fn long_gaps(places: u64) -> Vec<u8> {
+    rebase(|bytes| {
+        for place in 0..places {
+            operation(bytes, 0x70, 0x80 + gap(place));
+        }
+    })
+}
+
 /// A gap that is one byte and not always the same.
 fn gap(place: u64) -> u64 {
     8 * (place % 16)

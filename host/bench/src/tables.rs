@@ -31,14 +31,21 @@ fn one_repeat() -> Named {
 }
 
 /// A million places each.
-fn million_rebases() -> [Named; 4] {
+fn million_rebases() -> [Named; 5] {
     [
         (
             "rebase, a thousand repeats of a thousand places",
             streams::long_repeats(1000),
         ),
         ("rebase, a million `51`", streams::ones(MILLION as usize)),
-        ("rebase, a million `70` with a gap", streams::gaps(MILLION)),
+        (
+            "rebase, a million `70` with a gap of one byte",
+            streams::gaps(MILLION),
+        ),
+        (
+            "rebase, a million `70` with a gap of two bytes",
+            streams::long_gaps(MILLION),
+        ),
         (
             "rebase, a million single places, mixed",
             streams::mixed(MILLION),
