@@ -54,20 +54,20 @@ module _ (s : List ℕ) (at : ℕ) {r : Gathered} (g : r ≡ gatheredAt s at) wh
 -- ---- numbers of one byte and of two
 
 module _ (s : List ℕ) (at : ℕ) (h : at < length s) where
-  pub one-byte : getD s at 0 < 128 → Value (getD s at 0) (at + 1) ≡ ulebAt s at
-  one-byte b =
+  pub one-uleb : getD s at 0 < 128 → Value (getD s at 0) (at + 1) ≡ ulebAt s at
+  one-uleb b =
       let n : getD s at 0 ≡ 0 + getD s at 0 * 1 = omega arith in
       ap (λ (x : ℕ). Value x (at + 1)) n ∙ few-uleb s at refl (sym (is-few (none-held s at) h (λ e. omega (arith, e)) b))
 
-  pub two-bytes :
+  pub two-uleb :
       128 ≤ getD s at 0 → at + 1 < length s → getD s (at + 1) 0 < 128 →
       Value (getD s at 0 % 128 + getD s (at + 1) 0 * 128) (at + 2) ≡ ulebAt s at
-  two-bytes a k b =
+  two-uleb a k b =
       let n : getD s at 0 % 128 + getD s (at + 1) 0 * 128 ≡ 0 + getD s at 0 % 128 * 1 + getD s (at + 1) 0 * (1 * 128) = omega arith in
       let p : at + 2 ≡ at + 1 + 1 = omega arith in
       (λ j. Value (n j) (p j)) ∙
       few-uleb s at refl (sym (is-few (is-more (none-held s at) h (λ e. omega (arith, e)) a) k (λ e. omega (arith, e)) b))
 
-pub ruleset short-laws = (one-byte, two-bytes)
+pub ruleset short-laws = (one-uleb, two-uleb)
 
 pub ruleset uleb-laws = (cut-uleb, few-uleb, few-sum, few-product, ten-uleb, ten-large, ten-fits)
