@@ -346,7 +346,8 @@ uint64_t brinetrellis_bind_step(const uint8_t *stream, size_t stream_length, uin
                                 uint8_t *item, size_t item_length);
 
 /* Judge a whole stream, up to the first end, against the sizes of the segments in order: words, at most 16 of them.
- * However many places a repeat has, it is not stepped through. */
+ * However many places a repeat has, it is not stepped through. A place is inside its segment if all its bytes are: four
+ * of a text relocation, type 2 or 3, and of any other type the pointer size. */
 BRINETRELLIS_MUST_USE
 uint64_t brinetrellis_preflight_rebase(const uint8_t *stream, size_t stream_length, uint64_t pointer_size,
                                        const uint8_t *sizes, size_t sizes_length, uint8_t *verdict,
@@ -509,7 +510,8 @@ static inline size_t brinetrellis_sizes_length(size_t sizes_count) {
     return (sizes_count < 17 ? sizes_count : 17) * sizeof(uint64_t);
 }
 
-/* Judge a whole stream against the sizes of the segments in order, at most 16 of them. */
+/* Judge a whole stream against the sizes of the segments in order, at most 16 of them. A text relocation, type 2 or 3,
+ * has four bytes, a place of any other type the pointer size. */
 BRINETRELLIS_MUST_USE
 static inline enum brinetrellis_answer
 brinetrellis_judge_rebases(const uint8_t *stream, size_t stream_length, uint64_t pointer_size, const uint64_t *sizes,

@@ -52,7 +52,9 @@ impl Verdict {
     }
 }
 
-/// The preflight of a rebase stream of a pointer size; `sizes` are those of the segments in order.
+/// The preflight of a rebase stream of a pointer size; `sizes` are those of the segments in order. A
+/// place is inside its segment if all its bytes are: four of a text relocation, type 2 or 3, and of
+/// any other type the pointer size. So it is in binds, too.
 ///
 /// ```
 /// use brinetrellis::{preflight, Refusal, Verdict};

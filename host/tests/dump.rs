@@ -65,6 +65,25 @@ fn p3_passes_and_is_refused_with_a_place_more() {
     assert_eq!(listed(command, &[&stream]), text);
 }
 
+#[test]
+fn a_text_relocation_has_four_bytes() {
+    // Of type 2, in the last four bytes; with a byte less; and of type 1.
+    let outside = "refused  number 20  place 3  index 0  name \"place outside its segment\"\n";
+    let (text, pointer) = (b"\x12\x22\x24\x51", b"\x11\x22\x24\x51");
+    let whole = "preflight rebase 8 FILE 0 0 40";
+    assert_eq!(listed(whole, &[text]), "pass  operations 3\n");
+    assert_eq!(listed("preflight rebase 8 FILE 0 0 39", &[text]), outside);
+    assert_eq!(listed(whole, &[pointer]), outside);
+    // A bind of type 3, in each kind of stream; it is at byte 7.
+    let bind = b"\x11\x40\x61\x00\x53\x72\x24\x90";
+    let outside = outside.replace("place 3", "place 7");
+    for kind in ["bind", "weak", "lazy"] {
+        let command = |size: u64| format!("preflight {kind} 8 FILE 0 0 {size}");
+        assert_eq!(listed(&command(40), &[bind]), "pass  operations 5\n");
+        assert_eq!(listed(&command(39), &[bind]), outside);
+    }
+}
+
 // ---- each kind of item
 
 #[test]

@@ -111,7 +111,7 @@ fn a_place_between_is_judged_too() {
 }
 
 #[test]
-fn the_width_is_the_pointer_size() {
+fn the_width_of_a_pointer_is_the_pointer_size() {
     assert_eq!(rebases(&S1[..4], 4, &[0, 0, 28]), passes(3));
     let outside = fault(Refusal::PlaceOutside, 3, 2);
     assert_eq!(rebases(&S1[..4], 4, &[0, 0, 27]), outside);

@@ -1,5 +1,7 @@
+pub mod Accord
 pub mod Small
 pub mod Verdicts
+pub mod Widths
 pub mod Flights
 pub mod Legs
 pub mod Loops

@@ -1,9 +1,9 @@
 -- The verdict on a stream, read off what it lists: a pass where the listing ends without refusal and every entry lies inside its segment;
 -- else the first fault, with the position of its operation and its index in the repeat.
 use Prim.Native.Nat.{ℕ}
-use mathlib.Core.Bool.{Bool, true, false, cond, _&&_}
+use mathlib.Core.Bool.{Bool, true, false, cond, _&&_, _||_}
 use mathlib.Core.List.{List, [], _∷_}
-use lib.Dec.{leb, ltb}
+use lib.Dec.{eqb, leb, ltb}
 use lib.ListN.{length, getD}
 use Rattle.cursor.specs.Cursor.{isPointerSize}
 use Rattle.listing.specs.Listing.{Listing, ends, refuses, lists, listing}
@@ -18,9 +18,10 @@ pub data Verdict : Type 0 where
 
 -- ---- a place inside its segment
 
--- the width of a place, by the pointer size and its type: the pointer size, whatever the type
+-- the width of a place, by the pointer size and its type. Two types of mach-o/loader.h are text relocations, of 32 bits: in rebases
+-- REBASE_TYPE_TEXT_ABSOLUTE32 and REBASE_TYPE_TEXT_PCREL32, in binds BIND_TYPE_TEXT_ABSOLUTE32 and BIND_TYPE_TEXT_PCREL32
 abbrev pub widthOf : (size kind : ℕ) → ℕ
-widthOf size kind = size
+widthOf size kind = cond (eqb kind 2 || eqb kind 3) 4 size  -- TEXT_ABSOLUTE32 or TEXT_PCREL32
 
 -- its segment is below the number of sizes, and its width at its offset fits in that size
 unfoldable pub inside : (size : ℕ) (sizes : List ℕ) → Place → Bool

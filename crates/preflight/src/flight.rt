@@ -10,6 +10,12 @@ use cursor::Turn;
 use places::Judged;
 use refusal::Refusal;
 
+// REBASE_TYPE_TEXT_ABSOLUTE32 and BIND_TYPE_TEXT_ABSOLUTE32.
+const TEXT_ABSOLUTE32: u8 = 2;
+
+// REBASE_TYPE_TEXT_PCREL32 and BIND_TYPE_TEXT_PCREL32.
+const TEXT_PCREL32: u8 = 3;
+
 // What is known of places if some are due: the pointer size, what they lack, their segment and their
 // type.
 pub(crate) struct Spot {
@@ -66,11 +72,17 @@ impl Spot {
         }
     }
 
-    // The width of a place.
+    // The width of a place: a text relocation of 32 bits has four bytes.
     fn width(self) -> u64
         ensures { λ r. ⌜ r ≡ widthOf (self .size) (self .kind) ⌝ }
     {
-        self.size as u64
+        let kind = self.kind;
+        let size = self.size as u64;
+        match kind {
+            TEXT_ABSOLUTE32 => 4,
+            TEXT_PCREL32 => 4,
+            _ => size,
+        }
     }
 }
 

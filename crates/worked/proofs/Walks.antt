@@ -10,7 +10,7 @@ use Rattle.listing.specs.Listing.{listing, heard}
 use Rattle.listing.specs.Machine.{Machine}
 use Rattle.rebase.specs.Rebases.{unset, rebases}
 use Rattle.worked.specs.Called.{Calls, Called, AllCalled}
-use Rattle.worked.specs.Examples.{Example, uleb, sleb, rebased, bound, preflown, preflownBinds, defined, documented, examples}
+use Rattle.worked.specs.Examples.{Example, uleb, sleb, rebased, bound, preflown, defined, documented, examples}
 use Rattle.worked.proofs.Hold.{examples-hold}
 
 calls : (M : Machine) (start : M .Reg) (bytes : List ℕ) → Calls M start bytes (heard (listing M 8 start bytes))
@@ -24,8 +24,7 @@ called (uleb n bytes) e = tt
 called (sleb z bytes) e = tt
 called (rebased bytes run) e = let q : heard (listing rebases 8 unset bytes) ≡ run = cc in subst (Calls rebases unset bytes) q (calls rebases unset bytes)
 called (bound bytes run) e = record { items = heard (listing binds 8 plainly bytes); calls = calls binds plainly bytes; named = cc }
-called (preflown bytes sizes said) e = tt
-called (preflownBinds bytes sizes said) e = tt
+called (preflown stream size bytes sizes said) e = tt
 
 all-called : (xs : List Example) → map defined xs ≡ map documented xs → AllCalled xs
 all-called [] e = tt

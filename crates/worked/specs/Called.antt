@@ -8,7 +8,7 @@ use Rattle.listing.specs.Call.{State, begin, call}
 use Rattle.listing.specs.Machine.{Machine}
 use Rattle.rebase.specs.Rebases.{unset, rebases}
 use Rattle.runs.specs.Runs.{begun, Run, Walks}
-use Rattle.worked.specs.Examples.{Symbol, allNamed, Example, uleb, sleb, rebased, bound, preflown, preflownBinds}
+use Rattle.worked.specs.Examples.{Symbol, allNamed, Example, uleb, sleb, rebased, bound, preflown}
 
 pub record Calls (M : Machine) (start : M .Reg) (bytes : List ℕ) (run : Run (M .Item)) : Type 0 where
   pub given : State (M .Reg)
@@ -27,8 +27,7 @@ Called (uleb n bytes) = Unit {0}
 Called (sleb z bytes) = Unit {0}
 Called (rebased bytes run) = Calls rebases unset bytes run
 Called (bound bytes run) = CallsNamed bytes run
-Called (preflown bytes sizes said) = Unit {0}
-Called (preflownBinds bytes sizes said) = Unit {0}
+Called (preflown stream size bytes sizes said) = Unit {0}
 
 abbrev pub AllCalled : List Example → Type 0
 AllCalled [] = Unit {0}

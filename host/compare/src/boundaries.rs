@@ -48,6 +48,7 @@ pub fn all(bench: &mut Bench, random: &mut Random) {
     formats(&mut judge);
     numbers(0..=255, &mut judge);
     ordinals(&mut judge);
+    widths(0..16, &mut judge);
     pointers(40_000, &[0, 1, 0x1_0000_0000, u64::MAX], &mut judge);
     libraries(&mut judge);
 }
@@ -221,6 +222,29 @@ pub fn ordinals(mut judge: impl FnMut(Case<'_>)) {
                 calls: 6,
                 bytes: &bytes,
             });
+        }
+    }
+}
+
+/// The preflights of one place of each type, at 36, with sizes at which it just is inside or just is
+/// not.
+pub fn widths(kinds: impl Iterator<Item = u8>, mut judge: impl FnMut(Case<'_>)) {
+    for kind in kinds {
+        let rebase = [0x10 | kind, 0x22, 36, 0x51];
+        let bind = [0x11, 0x40, 0x61, 0x00, 0x50 | kind, 0x72, 36, 0x90];
+        for stream in STREAMS {
+            let bytes: &[u8] = match stream {
+                Stream::Rebase => &rebase,
+                _ => &bind,
+            };
+            for (size, room) in [(4, 39), (4, 40), (8, 39), (8, 40), (8, 43), (8, 44)] {
+                judge(Case::Preflight {
+                    stream,
+                    size,
+                    sizes: &[0, 0, room],
+                    bytes,
+                });
+            }
         }
     }
 }

@@ -1,26 +1,34 @@
 //! Streams whose last operation is one repeat, often of very many places, with a size at which its
 //! last place just is inside or just is not.
 
-use crate::gen_streams::uleb;
+use crate::gen_streams::{kind, uleb};
 use crate::preflight::LARGEST;
 use crate::random::Random;
 use oracle::Stream;
 
-/// What a repeat needs before it: everything but segment and offset.
-fn before(stream: Stream) -> &'static [u8] {
-    match stream {
-        Stream::Rebase => &[0x11],
-        Stream::Plain => &[0x11, 0x40, 0x61, 0x00, 0x51],
-        Stream::Weak => &[0x40, 0x61, 0x00],
-        Stream::Lazy => &[0x11, 0x40, 0x61, 0x00],
+/// Puts what a repeat needs before it, everything but segment and offset, and gives the type of its
+/// places, which some streams have from the start on.
+fn before(random: &mut Random, stream: Stream, bytes: &mut Vec<u8>) -> u8 {
+    let (given, opcode): (&[u8], u8) = match stream {
+        Stream::Rebase => (&[], 0x10),
+        Stream::Plain | Stream::Lazy => (&[0x11, 0x40, 0x61, 0x00], 0x50),
+        Stream::Weak => (&[0x40, 0x61, 0x00], 0x50),
+    };
+    bytes.clear();
+    bytes.extend_from_slice(given);
+    if matches!(stream, Stream::Weak | Stream::Lazy) && random.once_in(2) {
+        return 1;
     }
+    let kind = kind(random);
+    bytes.push(opcode | kind);
+    kind
 }
 
 /// How far the places are apart, and how many there are: mostly all of them within the largest size.
-fn steps(random: &mut Random, width: u64) -> (u64, u64) {
+fn steps(random: &mut Random, size: u64, width: u64) -> (u64, u64) {
     let step = match random.below(6) {
         0 => random.below(3) as u64,
-        1 => width,
+        1 => size,
         _ => (1 << random.below(64)) + random.below(3) as u64,
     };
     let most = (LARGEST - width).checked_div(step).unwrap_or(u64::MAX >> 1) + 1;
@@ -30,8 +38,10 @@ fn steps(random: &mut Random, width: u64) -> (u64, u64) {
 }
 
 /// Makes a stream and gives the size of its segment, which is 2.
-pub fn repeat(random: &mut Random, stream: Stream, width: u64, bytes: &mut Vec<u8>) -> u64 {
-    let (step, count) = steps(random, width);
+pub fn repeat(random: &mut Random, stream: Stream, size: u64, bytes: &mut Vec<u8>) -> u64 {
+    let kind = before(random, stream, bytes);
+    let width = oracle::width(stream, kind, size);
+    let (step, count) = steps(random, size, width);
     let (span, slack) = (step.wrapping_mul(count - 1), random.below(3) as u64);
     let backwards = random.once_in(2);
     let offset = if backwards {
@@ -45,13 +55,11 @@ pub fn repeat(random: &mut Random, stream: Stream, width: u64, bytes: &mut Vec<u
     } else {
         offset.wrapping_add(span)
     };
-    bytes.clear();
-    bytes.extend_from_slice(before(stream));
     bytes.push(if stream == Stream::Rebase { 0x22 } else { 0x72 });
     uleb(offset, bytes);
     bytes.push(if stream == Stream::Rebase { 0x80 } else { 0xc0 });
     uleb(count, bytes);
-    uleb(advance.wrapping_sub(width), bytes);
+    uleb(advance.wrapping_sub(size), bytes);
     if random.once_in(4) {
         bytes.push(0);
     }

@@ -60,9 +60,23 @@ fn count(random: &mut Random) -> u64 {
     }
 }
 
+/// The type of a place: half of the time a text relocation, 2 or 3, else any.
+pub fn kind(random: &mut Random) -> u8 {
+    match random.below(4) {
+        0 => 2,
+        1 => 3,
+        _ => random.byte() & 15,
+    }
+}
+
 fn rebase_operation(random: &mut Random, bytes: &mut Vec<u8>) {
     let opcode = random.pick(&[1, 2, 3, 4, 5, 5, 6, 7, 8, 8]);
-    bytes.push(opcode << 4 | random.byte() & if opcode == 5 { 3 } else { 15 });
+    let immediate = match opcode {
+        1 => kind(random),
+        5 => random.byte() & 3,
+        _ => random.byte() & 15,
+    };
+    bytes.push(opcode << 4 | immediate);
     match opcode {
         2 | 3 | 7 => {
             let value = random.number();
@@ -89,7 +103,11 @@ fn name(random: &mut Random, bytes: &mut Vec<u8>) {
 
 fn bind_operation(random: &mut Random, bytes: &mut Vec<u8>) {
     let opcode = random.pick(&[1, 2, 3, 4, 5, 6, 7, 7, 8, 9, 9, 9, 10, 11, 12, 12]);
-    bytes.push(opcode << 4 | random.byte() & 15);
+    let immediate = match opcode {
+        5 => kind(random),
+        _ => random.byte() & 15,
+    };
+    bytes.push(opcode << 4 | immediate);
     let value = random.number();
     match opcode {
         2 if random.once_in(8) => unsigned(random, value, bytes),
@@ -113,13 +131,15 @@ fn operation(random: &mut Random, stream: Stream, bytes: &mut Vec<u8>) {
     }
 }
 
-/// What has to be set before a place is due, now and then not all of it, in any order.
+/// What has to be set before a place is due, now and then not all of it, in any order; where a type
+/// is set from the start on, sometimes another one.
 fn settings(random: &mut Random, stream: Stream, bytes: &mut Vec<u8>) {
-    let needed: &[u8] = match stream {
-        Stream::Rebase => &[1, 2],
-        Stream::Plain => &[1, 4, 5, 7],
-        Stream::Weak => &[4, 7],
-        Stream::Lazy => &[1, 4, 7],
+    let needed: &[u8] = match (stream, random.once_in(2)) {
+        (Stream::Rebase, _) => &[1, 2],
+        (Stream::Plain, _) | (Stream::Lazy, true) => &[1, 4, 5, 7],
+        (Stream::Lazy, false) => &[1, 4, 7],
+        (Stream::Weak, true) => &[4, 5, 7],
+        (Stream::Weak, false) => &[4, 7],
     };
     let first = random.below(needed.len());
     for turn in 0..needed.len() {
@@ -127,7 +147,11 @@ fn settings(random: &mut Random, stream: Stream, bytes: &mut Vec<u8>) {
             continue;
         }
         let opcode = needed[(first + turn) % needed.len()];
-        bytes.push(opcode << 4 | random.byte() & 15);
+        let immediate = match (stream, opcode) {
+            (Stream::Rebase, 1) | (_, 5) => kind(random),
+            _ => random.byte() & 15,
+        };
+        bytes.push(opcode << 4 | immediate);
         match (stream, opcode) {
             (Stream::Rebase, 2) | (_, 7) => {
                 let offset = random.number();

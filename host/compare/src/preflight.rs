@@ -39,6 +39,7 @@ pub fn expected(
 
 fn flight(stream: Stream, size: u64, sizes: &[u64], bytes: &[u8]) -> Option<[u64; 3]> {
     let mut walk = oracle::places(stream, bytes, size as u8);
+    let width = |kind| oracle::width(stream, kind, size);
     let (mut at, mut operations, mut far) = (0, 0, false);
     while at < bytes.len() {
         let position = at as u64;
@@ -52,7 +53,7 @@ fn flight(stream: Stream, size: u64, sizes: &[u64], bytes: &[u8]) -> Option<[u64
             Operation::Done => break,
             Operation::Places(0) | Operation::Other => (),
             Operation::Places(_) if far => return None,
-            Operation::Places(count) => match repeat(&mut walk, count, size, sizes) {
+            Operation::Places(count) => match repeat(&mut walk, count, width, sizes) {
                 Verdict::Inside => (),
                 Verdict::Fault(refusal, index) => return Some([refusal, position, index]),
                 Verdict::Far => far = true,
@@ -64,22 +65,23 @@ fn flight(stream: Stream, size: u64, sizes: &[u64], bytes: &[u8]) -> Option<[u64
 
 /// Steps through the places of an operation. Where they are too many, the first two tell how the
 /// others lie, and the walk is of no use behind them.
-fn repeat(walk: &mut Places<'_>, count: u64, size: u64, sizes: &[u64]) -> Verdict {
+fn repeat(walk: &mut Places<'_>, count: u64, width: impl Fn(u8) -> u64, sizes: &[u64]) -> Verdict {
     let (mut first, mut foretold) = ([0; 2], Verdict::Inside);
     for index in 0..count.min(STEPPED) {
-        let (segment, offset) = match walk.step() {
+        let (segment, offset, kind) = match walk.step() {
             Err(refusal) => return Verdict::Fault(refusal, 0),
             Ok(place) => place.expect("an operation has its places"),
         };
         let room = sizes.get(segment as usize).copied();
-        if room.is_none_or(|room| u128::from(offset) + u128::from(size) > room.into()) {
+        let width = width(kind);
+        if room.is_none_or(|room| u128::from(offset) + u128::from(width) > room.into()) {
             return agreed(foretold, Verdict::Fault(20, index));
         }
         if let Some(place) = first.get_mut(index as usize) {
             *place = offset;
         }
         if index == 1 {
-            foretold = far(first, count, room.expect("the place is inside") - size);
+            foretold = far(first, count, room.expect("the place is inside") - width);
             if count > STEPPED {
                 return foretold;
             }

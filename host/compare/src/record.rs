@@ -153,6 +153,7 @@ pub fn record(file: &str) -> Result<String, String> {
     let lasts = [0, 1, 2, 0x3f, 0x40, 0x7e, 0x7f, 0x80, 0xff];
     boundaries::numbers(lasts.into_iter(), |case| lines.add(case));
     boundaries::ordinals(|case| lines.add(case));
+    boundaries::widths([0, 1, 2, 3, 4, 15].into_iter(), |case| lines.add(case));
     boundaries::bare_headers(|case| lines.add(case));
     boundaries::formats(|case| lines.add(case));
     boundaries::pointers(40_000, &[1], |case| lines.add(case));

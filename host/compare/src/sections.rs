@@ -221,10 +221,11 @@ fn exact_sizes(bench: &mut Bench, stream: Stream, size: u64, bytes: &[u8]) {
     }
     let mut walk = oracle::places(stream, bytes, size as u8);
     for _ in 0..24 {
-        let Ok(Some((segment, offset))) = walk.step() else {
+        let Ok(Some((segment, offset, kind))) = walk.step() else {
             break;
         };
-        let needed = offset.saturating_add(size).min(LARGEST);
+        let width = oracle::width(stream, kind, size);
+        let needed = offset.saturating_add(width).min(LARGEST);
         exact[segment as usize] = exact[segment as usize].max(needed);
     }
     bench.judge(Case::Preflight {

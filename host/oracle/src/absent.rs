@@ -43,9 +43,13 @@ pub fn places(_: Stream, _: &[u8], _: u8) -> Places<'_> {
 }
 
 impl Places<'_> {
-    pub fn step(&mut self) -> Result<Option<(u64, u64)>, u64> {
+    pub fn step(&mut self) -> Result<Option<(u64, u64, u8)>, u64> {
         Ok(None)
     }
+}
+
+pub fn width(_: Stream, _: u8, pointer_size: u64) -> u64 {
+    pointer_size
 }
 
 pub fn preflight(_: Stream, _: &[u8], _: u64, _: &[u64]) -> [u64; 3] {

@@ -1,6 +1,7 @@
 //! Single operations and places as the crate reads them, for a preflight that is found place by
 //! place.
 
+use crate::loader;
 use crate::read::macho::{BindIterator, BindOperation, RebaseIterator, RebaseOperation};
 use crate::streams::{bind_operations, binds, rebase_operations, rebases};
 use crate::texts::number;
@@ -44,7 +45,7 @@ pub fn operation(stream: Stream, bytes: &[u8]) -> Result<Operation, u64> {
     }
 }
 
-/// The places of a stream one by one: segment and offset.
+/// The places of a stream one by one.
 pub enum Places<'data> {
     Rebases(RebaseIterator<'data>),
     Binds(BindIterator<'data>),
@@ -59,18 +60,39 @@ pub fn places(stream: Stream, bytes: &[u8], pointer_size: u8) -> Places<'_> {
 }
 
 impl Places<'_> {
-    /// The next place, or the number of the walk's error; nothing at an end.
-    pub fn step(&mut self) -> Result<Option<(u64, u64)>, u64> {
+    /// The next place, its segment, offset and type, or the number of the walk's error; nothing at
+    /// an end.
+    pub fn step(&mut self) -> Result<Option<(u64, u64, u8)>, u64> {
         let place = match self {
             Places::Rebases(walk) => walk
                 .next()
-                .map(|r| r.map(|r| (r.segment_index, r.segment_offset))),
+                .map(|r| r.map(|r| (r.segment_index, r.segment_offset, r.kind.0))),
             Places::Binds(walk) => walk
                 .next()
-                .map(|b| b.map(|b| (b.segment_index, b.segment_offset))),
+                .map(|b| b.map(|b| (b.segment_index, b.segment_offset, b.kind.0))),
         };
         place
-            .map(|p| p.map(|(segment, offset)| (segment.into(), offset)))
+            .map(|p| p.map(|(segment, offset, kind)| (segment.into(), offset, kind)))
             .map_err(number)
+    }
+}
+
+/// How many bytes a place takes, by what mach-o/loader.h calls its type: four if it is a text
+/// relocation of 32 bits, else the pointer size. The crate does not say.
+pub fn width(stream: Stream, kind: u8, pointer_size: u64) -> u64 {
+    let [absolute, relative] = match stream {
+        Stream::Rebase => [
+            loader::REBASE_TYPE_TEXT_ABSOLUTE32,
+            loader::REBASE_TYPE_TEXT_PCREL32,
+        ],
+        _ => [
+            loader::BIND_TYPE_TEXT_ABSOLUTE32,
+            loader::BIND_TYPE_TEXT_PCREL32,
+        ],
+    };
+    if kind == absolute || kind == relative {
+        4
+    } else {
+        pointer_size
     }
 }

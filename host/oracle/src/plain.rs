@@ -2,6 +2,7 @@
 //! against and compared with. It is written for speed. Operations are only counted; where there is
 //! a fault, a second pass over the stream finds its position.
 
+use crate::operations::width;
 use crate::read::macho::{BindOperation, RebaseOperation};
 use crate::read::Bytes;
 use crate::streams::{bind_operations, rebase_operations};
@@ -47,11 +48,14 @@ struct Fault {
 /// What a preflight keeps between operations.
 #[derive(Clone, Copy)]
 struct Registers<'a> {
-    width: u64,
+    stream: Stream,
+    pointer_size: u64,
     sizes: &'a [u64],
     /// How many operations are behind.
     read: u64,
     segment: Option<u8>,
+    /// How many bytes a place takes, by its type.
+    width: u64,
     typed: bool,
     sourced: bool,
     named: bool,
@@ -62,12 +66,14 @@ struct Registers<'a> {
 
 impl<'a> Registers<'a> {
     /// A rebase needs neither library nor symbol.
-    fn start(stream: Stream, width: u64, sizes: &'a [u64]) -> Self {
+    fn start(stream: Stream, pointer_size: u64, sizes: &'a [u64]) -> Self {
         Registers {
-            width,
+            stream,
+            pointer_size,
             sizes,
             read: 0,
             segment: None,
+            width: pointer_size,
             typed: matches!(stream, Stream::Weak | Stream::Lazy),
             sourced: matches!(stream, Stream::Rebase | Stream::Weak),
             named: stream == Stream::Rebase,
@@ -90,7 +96,8 @@ impl<'a> Registers<'a> {
         self.fit();
     }
 
-    fn set_type(&mut self) {
+    fn set_type(&mut self, kind: u8) {
+        self.width = width(self.stream, kind, self.pointer_size);
         self.typed = true;
         self.fit();
     }
@@ -114,7 +121,7 @@ impl<'a> Registers<'a> {
     /// Some places in a row, and behind each the pointer size and an addition.
     #[inline]
     fn places(&mut self, count: u64, addition: u64) -> Result<(), Fault> {
-        let advance = self.width.wrapping_add(addition);
+        let advance = self.pointer_size.wrapping_add(addition);
         if count > FEW {
             return self.repeat(count, advance);
         }
@@ -182,10 +189,10 @@ fn rebases(bytes: &[u8], mut now: Registers<'_>) -> Result<u64, Fault> {
     while let Some((_, operation)) = operations.next().map_err(|e| now.fault(number(e), 0))? {
         match operation {
             Done => return Ok(now.read + 1),
-            SetType { .. } => now.set_type(),
+            SetType { kind } => now.set_type(kind.0),
             SetSegmentAndOffset { index, offset } => now.point(index, offset),
             AddAddr { offset } => now.add(offset),
-            AddAddrScaled { count } => now.add(u64::from(count) * now.width),
+            AddAddrScaled { count } => now.add(u64::from(count) * now.pointer_size),
             DoRebaseTimes { count } => now.places(count, 0)?,
             DoRebaseAddAddr { offset } => now.places(1, offset)?,
             DoRebaseTimesSkipping { count, skip } => now.places(count, skip)?,
@@ -211,7 +218,7 @@ fn binds(bytes: &[u8], start: Registers<'_>, lazy: bool) -> Result<u64, Fault> {
             }
             SetDylibOrdinal { .. } | SetDylibSpecial { .. } => now.set_library(),
             SetSymbol { .. } => now.set_symbol(),
-            SetType { .. } => now.set_type(),
+            SetType { kind } => now.set_type(kind.0),
             SetAddend { .. } => (),
             SetSegmentAndOffset {
                 segment_index,
@@ -220,7 +227,7 @@ fn binds(bytes: &[u8], start: Registers<'_>, lazy: bool) -> Result<u64, Fault> {
             AddAddr { offset } => now.add(offset),
             DoBind => now.places(1, 0)?,
             DoBindAddAddr { offset } => now.places(1, offset)?,
-            DoBindAddAddrScaled { count } => now.places(1, u64::from(count) * now.width)?,
+            DoBindAddAddrScaled { count } => now.places(1, u64::from(count) * now.pointer_size)?,
             DoBindTimesSkipping { count, skip } => now.places(count, skip)?,
         }
         now.read += 1;

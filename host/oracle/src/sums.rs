@@ -2,7 +2,8 @@
 //! place.
 
 use crate::endian::LittleEndian;
-use crate::read::macho::DyldChainedFixups;
+use crate::operations::width;
+use crate::read::macho::{Bind, DyldChainedFixups, Rebase};
 use crate::streams::{binds, command, rebases};
 use crate::texts::number;
 use crate::Stream;
@@ -76,9 +77,10 @@ pub fn imports(fixups: &[u8]) -> u64 {
 /// The number that a preflight answers, found by a walk to every place.
 pub fn visit_rebases(stream: &[u8], pointer_size: u8, sizes: &[u64]) -> u64 {
     let mut walk = rebases(stream, pointer_size);
+    let bytes = |r: &Rebase| width(Stream::Rebase, r.kind.0, pointer_size.into());
     loop {
         match walk.next() {
-            Ok(Some(r)) if inside(r.segment_index, r.segment_offset, pointer_size, sizes) => (),
+            Ok(Some(r)) if inside(r.segment_index, r.segment_offset, bytes(&r), sizes) => (),
             Ok(Some(_)) => return 20,
             Ok(None) => return 0,
             Err(error) => return number(error),
@@ -88,9 +90,10 @@ pub fn visit_rebases(stream: &[u8], pointer_size: u8, sizes: &[u64]) -> u64 {
 
 pub fn visit_binds(stream: &[u8], pointer_size: u8, sizes: &[u64]) -> u64 {
     let mut walk = binds(Stream::Plain, stream, pointer_size);
+    let bytes = |b: &Bind<'_>| width(Stream::Plain, b.kind.0, pointer_size.into());
     loop {
         match walk.next() {
-            Ok(Some(b)) if inside(b.segment_index, b.segment_offset, pointer_size, sizes) => (),
+            Ok(Some(b)) if inside(b.segment_index, b.segment_offset, bytes(&b), sizes) => (),
             Ok(Some(_)) => return 20,
             Ok(None) => return 0,
             Err(error) => return number(error),
@@ -98,8 +101,8 @@ pub fn visit_binds(stream: &[u8], pointer_size: u8, sizes: &[u64]) -> u64 {
     }
 }
 
-fn inside(segment: u8, offset: u64, width: u8, sizes: &[u64]) -> bool {
-    let end = offset.checked_add(width.into());
+fn inside(segment: u8, offset: u64, width: u64, sizes: &[u64]) -> bool {
+    let end = offset.checked_add(width);
     let size = sizes.get(usize::from(segment));
     end.zip(size).is_some_and(|(end, size)| end <= *size)
 }

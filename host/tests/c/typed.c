@@ -105,6 +105,24 @@ static void verdicts(void) {
     CHECK(verdict.position == 6 && verdict.index == 0);
 }
 
+/* A place of four bytes, in 64 bits: in the last of its segment, and with one byte less. */
+static void text_relocations(void) {
+    static const uint8_t text[] = {0x10 | BRINETRELLIS_REBASE_TYPE_TEXT_ABSOLUTE32, 0x22, 36, 0x51};
+    static const uint8_t bind[] = {0x11, 0x40, 'a', 0, 0x50 | BRINETRELLIS_BIND_TYPE_TEXT_PCREL32, 0x72, 36, 0x90};
+    static const uint64_t whole[] = {0, 0, 40}, less[] = {0, 0, 39};
+    struct brinetrellis_verdict verdict;
+    CHECK(brinetrellis_judge_rebases(text, sizeof text, 8, whole, 3, &verdict) == BRINETRELLIS_ITEM);
+    CHECK(brinetrellis_judge_rebases(text, sizeof text, 8, less, 3, &verdict) == BRINETRELLIS_PLACE_OUTSIDE);
+    CHECK(verdict.position == 3 && verdict.index == 0);
+    CHECK(brinetrellis_judge_plain_binds(bind, sizeof bind, 8, whole, 3, &verdict) == BRINETRELLIS_ITEM);
+    CHECK(brinetrellis_judge_plain_binds(bind, sizeof bind, 8, less, 3, &verdict) == BRINETRELLIS_PLACE_OUTSIDE);
+    CHECK(brinetrellis_judge_weak_binds(bind, sizeof bind, 8, whole, 3, &verdict) == BRINETRELLIS_ITEM);
+    CHECK(brinetrellis_judge_weak_binds(bind, sizeof bind, 8, less, 3, &verdict) == BRINETRELLIS_PLACE_OUTSIDE);
+    CHECK(brinetrellis_judge_lazy_binds(bind, sizeof bind, 8, whole, 3, &verdict) == BRINETRELLIS_ITEM);
+    CHECK(brinetrellis_judge_lazy_binds(bind, sizeof bind, 8, less, 3, &verdict) == BRINETRELLIS_PLACE_OUTSIDE);
+    CHECK(verdict.position == 7 && verdict.index == 0);
+}
+
 static void export_walk(void) {
     static struct brinetrellis_trie_state state;
     struct brinetrellis_trie_item item;
@@ -176,6 +194,7 @@ static void all(void) {
     rebase_walk();
     bind_walks();
     verdicts();
+    text_relocations();
     export_walk();
     fixup_walks();
     import_walk();
