@@ -147,7 +147,8 @@ fn a_long_repeat_forwards() {
             let stream = Stream::repeat(&kind, of_type, 0, 2 * HALF, 8);
             stream.passes(&kind, 8, last + 4);
             stream.outside(&kind, 8, last + 3, 2 * HALF - 1);
-            // In the middle: the place at 8 × HALF ends at the end of the segment, and the next is outside.
+            // In the middle: the place at 8 × HALF ends with the segment, and the next is outside;
+            // with a byte less, it is.
             stream.outside(&kind, 8, 8 * HALF + 4, HALF + 1);
             stream.outside(&kind, 8, 8 * HALF + 3, HALF);
         }
@@ -184,8 +185,8 @@ fn at_the_end_of_the_numbers_it_does_not_wrap() {
             Stream::place(&kind, of_type, LARGEST - 4).passes(&kind, 8, LARGEST);
             Stream::place(&kind, of_type, LARGEST - 3).outside(&kind, 8, LARGEST, 0);
             // Offset and width come to 2^64, and to more.
-            for offset in [4, 3, 1] {
-                let stream = Stream::place(&kind, of_type, u64::MAX - offset + 1);
+            for below in [4u64, 3, 1] {
+                let stream = Stream::place(&kind, of_type, below.wrapping_neg());
                 stream.outside(&kind, 8, LARGEST, 0);
                 stream.outside(&kind, 8, 0, 0);
             }
