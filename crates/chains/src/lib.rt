@@ -1,5 +1,8 @@
 // The walk over the segments that chained fixups are in: a state goes in, and a segment's record, the end
 // or a refusal comes out, with the next state.
+
+#![tactic(auto)]
+
 ghost use Rattle.std.specs.Prelude.{◌≡◌, ◌+◌, ◌*◌, ◌≤◌, ltb, length};
 ghost use Rattle.chains.specs.Call.{at_index, begin, recorded, call};
 ghost use Rattle.chains.specs.FixupChains.{record_at};

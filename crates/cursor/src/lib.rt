@@ -1,5 +1,8 @@
 // Where a walk over an opcode stream stands: in the stream, in a segment and in a repeat. What moves
 // it is the same in every kind of stream, whatever else the operations set.
+
+#![tactic(auto)]
+
 ghost use Rattle.std.specs.Prelude.{◌≡◌, ◌*◌};
 ghost use Rattle.cursor.specs.Cursor.{is_pointer_size, behind_place, start_of, standing_of, moved_of};
 ghost use Rattle.cursor.specs.Motion.{turn_of};

@@ -1,5 +1,8 @@
 // Prints what a file holds of what the loader reads: a line for each item, and a closing line that says how the
 // list ends. The files are the bare streams, tries, chained fixups and segments.
+
+#![tactic(auto)]
+
 mod chained;
 mod closing;
 mod exports;

@@ -1,5 +1,8 @@
 // The preflights as C sees them: numbers and byte slices go in, and a number comes out. What each function answers and
 // writes is in specs/Entries.antt, a definition to a function.
+
+#![tactic(auto)]
+
 ghost use Rattle.std.specs.Prelude.{◌≡◌};
 ghost use Rattle.flights.specs.Entries.{preflight_rebase, preflight_plain, preflight_weak, preflight_lazy};
 

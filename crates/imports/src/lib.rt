@@ -1,5 +1,8 @@
 // The walk over the imports of chained fixups: a state goes in, and an import, the end or a refusal comes
 // out, with the next state.
+
+#![tactic(auto)]
+
 ghost use Rattle.std.specs.Prelude.{◌≡◌, ◌-◌, ◌<◌};
 ghost use Rattle.imports.specs.Call.{out_of_range, marked, passed, begin, call};
 ghost use Rattle.imports.specs.Told.{start_told, told};

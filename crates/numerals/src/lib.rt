@@ -1,4 +1,7 @@
 // Numbers as they are written on a command line: decimal, or hexadecimal behind 0x.
+
+#![tactic(auto)]
+
 ghost use Rattle.std.specs.Prelude.{◌<◌, ◌≡◌};
 ghost use Rattle.numerals.specs.Numerals.{among, digit_of, in_base, is_hexadecimal, numeral_of};
 

@@ -1,4 +1,7 @@
 // The bind walk at the boundary to C: states and items in bytes.
+
+#![tactic(auto)]
+
 ghost use Rattle.std.specs.Prelude.{true, ◌≡◌, length};
 ghost use Rattle.bind.specs.Binds.{plainly, weakly, lazily, binds};
 ghost use Rattle.bind.specs.Told.{view, start_told, told};

@@ -1,4 +1,7 @@
 // The walk over imports at the boundary to C: states and items in bytes.
+
+#![tactic(auto)]
+
 ghost use Rattle.std.specs.Prelude.{◌≡◌, length};
 ghost use Rattle.imports.specs.Call.{begin, call};
 ghost use Rattle.imports.specs.Told.{told};

@@ -1,4 +1,7 @@
 // The walk over pages at the boundary to C: states and items in bytes.
+
+#![tactic(auto)]
+
 ghost use Rattle.std.specs.Prelude.{true, ◌≡◌, ◌≤◌, length};
 ghost use Rattle.packed_segments.specs.Packed.{segment_at};
 ghost use Rattle.packing.specs.Boundary.{started, step_told, stepped};

@@ -1,4 +1,7 @@
 // Preflights at the boundary to C: the sizes in bytes, and the verdict written as words.
+
+#![tactic(auto)]
+
 ghost use Rattle.std.specs.Prelude.{◌≡◌, ◌≤◌, length};
 ghost use Rattle.bind.specs.Binds.{plainly, weakly, lazily, binds};
 ghost use Rattle.packed_preflight.specs.Packed.{sizes_of, fewer, verdict_told, flown, flight_of};

@@ -1,4 +1,7 @@
 // The rebase walk at the boundary to C: states and items in bytes.
+
+#![tactic(auto)]
+
 ghost use Rattle.std.specs.Prelude.{true, ◌≡◌, length};
 ghost use Rattle.listing.specs.Call.{begin, call};
 ghost use Rattle.packing.specs.Boundary.{started, step_told, stepped};

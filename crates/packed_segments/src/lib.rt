@@ -1,4 +1,7 @@
 // The walk over segments at the boundary to C: states and items in bytes.
+
+#![tactic(auto)]
+
 ghost use Rattle.std.specs.Prelude.{◌≡◌, length};
 ghost use Rattle.chains.specs.Call.{begin, call};
 ghost use Rattle.chains.specs.Told.{told};

@@ -1,4 +1,7 @@
 // The trie walk at the boundary to C: states and items in bytes.
+
+#![tactic(auto)]
+
 ghost use Rattle.std.specs.Prelude.{◌≡◌, ◌+◌, ◌*◌, ◌≤◌, length};
 ghost use Rattle.std.proofs.lemmas.List.Edits.{sets};
 ghost use Rattle.nodes.specs.Exported.{export_told};

@@ -1,4 +1,7 @@
 // Records of words in bytes, as they cross the boundary to C.
+
+#![tactic(auto)]
+
 ghost use Rattle.std.specs.Prelude.{◌≡◌, ◌+◌, ◌≤◌, length};
 ghost use Rattle.std.proofs.lemmas.List.Edits.{sets};
 ghost use Rattle.packing.specs.Fields.{bit, is_record, signed_of, unsigned_of};

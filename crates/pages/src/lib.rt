@@ -1,6 +1,9 @@
 // The walk over the fixups of a segment, page by page and chain by chain: a state goes in, and a place that
 // the loader patches, the end or a refusal comes out, with the next state. `s` are the bytes of the
 // chained fixups, `d` those of the segment.
+
+#![tactic(auto)]
+
 ghost use Rattle.std.specs.Prelude.{◌≡◌, ◌+◌, ◌-◌, ◌*◌, ◌<◌, ◌≤◌, length};
 ghost use Rattle.numbers.specs.LittleEndian.{field_at};
 ghost use Rattle.pages.specs.Call.{starts_out, begin, farthest, out_of_range, marked, on_page, to_chain, to_pointer, onward, chain, opened, pages, seek, pointer, call};

@@ -1,4 +1,7 @@
 // The places of one operation, judged together: however many they are, nothing is stepped through.
+
+#![tactic(auto)]
+
 ghost use Rattle.std.specs.Prelude.{◌≡◌};
 ghost use Rattle.places.specs.Places.{judged_of};
 

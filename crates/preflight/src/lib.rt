@@ -1,5 +1,8 @@
 // The preflight of an opcode stream: does a walk over it end without refusal, with every place inside
 // its segment? However many places a repeat has, it is not stepped through.
+
+#![tactic(auto)]
+
 mod bind_flight;
 mod flight;
 mod rebase_flight;

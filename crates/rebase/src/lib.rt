@@ -1,5 +1,8 @@
 // The walk over a rebase stream: a state goes in, and a place that the loader rebases, the end or a
 // refusal comes out, with the next state.
+
+#![tactic(auto)]
+
 ghost use Rattle.std.specs.Prelude.{◌≡◌};
 ghost use Rattle.listing.specs.Call.{begin, refusal, due, read, call};
 ghost use Rattle.listing.specs.Machine.{◌and◌};

@@ -1,5 +1,8 @@
 // The refusals: why a start, a walk or a preflight gives no more. `specs/Numbers.antt` says when each
 // is given.
+
+#![tactic(auto)]
+
 ghost use Rattle.std.specs.Prelude.{◌≡◌};
 ghost use Rattle.refusal.specs.Numbers.{number_of};
 

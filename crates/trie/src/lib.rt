@@ -1,6 +1,9 @@
 // The walk over an exports trie: a state goes in, with a lent buffer for names and a limit of nodes;
 // an export, the end, a refusal, or that there is more comes out, with the next state and the number
 // of nodes visited.
+
+#![tactic(auto)]
+
 ghost use Rattle.std.specs.Prelude.{◌≡◌, ◌-◌, ◌≤◌, ◌<◌};
 ghost use Rattle.nodes.specs.ExportsTrie.{node_at};
 ghost use Rattle.trie.specs.Call.{at_start, marked, seen, onward, visit_root, call};

@@ -1,2 +1,4 @@
 // The worked examples of the public documents, proved of the definitions: specs/ and proofs/ hold
 // them, and there is no code.
+
+#![tactic(auto)]
