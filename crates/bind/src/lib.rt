@@ -19,7 +19,7 @@ use refusal::Refusal;
 // A place that the loader binds: its segment, its offset there, its type, the library that the symbol
 // is taken from, the place and length of the symbol's name in the stream, its flags, and the addend.
 // A byte stands first: in a step's answer it lies where a refusal does.
-#[derive(Drop)]
+#[derive(Clone, Copy)]
 pub struct Bind {
     pub segment: u8,
     pub offset: u64,
@@ -33,7 +33,7 @@ pub struct Bind {
 
 // What operations have set, but for the offset; whether the walk is a lazy one; and whether segment,
 // type, library (`sourced`) and symbol (`named`) are set.
-#[derive(Drop)]
+#[derive(Clone, Copy)]
 pub struct Registers {
     pub place: usize,
     pub length: usize,
@@ -49,19 +49,19 @@ pub struct Registers {
     pub named: bool,
 }
 
-#[derive(Drop)]
+#[derive(Clone, Copy)]
 pub struct BindWalk {
     pub cursor: Cursor,
     pub registers: Registers,
 }
 
-#[derive(Drop)]
+#[derive(Clone, Copy)]
 pub enum BindStart {
     Begun(BindWalk),
     Refused(Refusal),
 }
 
-#[derive(Drop)]
+#[derive(Clone, Copy)]
 pub enum BindStep {
     Item(BindWalk, Bind),
     End(BindWalk),
@@ -69,7 +69,7 @@ pub enum BindStep {
 }
 
 // What an operation does: what becomes of the place, and the registers from now on.
-#[derive(Drop)]
+#[derive(Clone, Copy)]
 pub struct BindEffect {
     pub motion: Motion,
     pub registers: Registers,

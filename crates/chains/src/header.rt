@@ -8,7 +8,7 @@ use refusal::Refusal;
 
 // dyld_chained_fixups_header: the version; where the starts, the imports and the symbols are; how many
 // imports there are, and of which format; and how the symbols are packed.
-#[derive(Drop)]
+#[derive(Clone, Copy)]
 pub struct Header {
     pub fixups_version: u64,
     pub starts_offset: u64,
@@ -19,7 +19,7 @@ pub struct Header {
     pub symbols_format: u64,
 }
 
-#[derive(Drop)]
+#[derive(Clone, Copy)]
 pub enum HeaderRead {
     Read(Header),
     Refused(Refusal),

@@ -22,7 +22,7 @@ use refusal::Refusal;
 // What is known of a segment's chains: its index, its offset in memory, the largest value that is a pointer
 // (not applied), the place and number of the starts in the lent bytes, the size of its pages, the format of
 // its pointers, and the number of its pages.
-#[derive(Drop)]
+#[derive(Clone, Copy)]
 pub struct Segment {
     pub index: u64,
     pub segment_offset: u64,
@@ -35,20 +35,20 @@ pub struct Segment {
 }
 
 // Where the starts are in the lent bytes, how many segments they have, and the index of the next.
-#[derive(Drop)]
+#[derive(Clone, Copy)]
 pub struct SegmentWalk {
     pub place: usize,
     pub count: u64,
     pub index: u64,
 }
 
-#[derive(Drop)]
+#[derive(Clone, Copy)]
 pub enum SegmentStart {
     Begun(SegmentWalk),
     Refused(Refusal),
 }
 
-#[derive(Drop)]
+#[derive(Clone, Copy)]
 pub enum SegmentStep {
     Item(SegmentWalk, Segment),
     End(SegmentWalk),

@@ -5,7 +5,7 @@ ghost use Rattle.chains.specs.FixupChains.{record_at};
 use crate::Segment;
 use crate::fields::{u16_at, u32_at, u64_at};
 
-#[derive(Drop)]
+#[derive(Clone, Copy)]
 pub(crate) enum SegmentRead {
     Found(Segment),
     Fault,

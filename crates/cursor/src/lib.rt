@@ -11,7 +11,7 @@ use refusal::Refusal;
 
 // What an operation does to the place, or says. A repeat has a count of places, and what each of them
 // adds to the offset beside the pointer size.
-#[derive(Drop)]
+#[derive(Clone, Copy)]
 pub enum Motion {
     Stays,
     Adds(u64),
@@ -24,7 +24,7 @@ pub enum Motion {
 
 // What that comes to at an offset. Where places are due: how many behind the first, and how far each is
 // from the one before it.
-#[derive(Drop)]
+#[derive(Clone, Copy)]
 pub enum Turn {
     On(u64),
     Anew,
@@ -33,7 +33,7 @@ pub enum Turn {
     Refused(Refusal),
 }
 
-#[derive(Drop)]
+#[derive(Clone, Copy)]
 pub struct Cursor {
     pub at: usize,
     pub remaining: u64,
@@ -43,14 +43,14 @@ pub struct Cursor {
     pub ended: bool,
 }
 
-#[derive(Drop)]
+#[derive(Clone, Copy)]
 pub enum Start {
     Begun(Cursor),
     Refused(Refusal),
 }
 
 // What a call has to do. A place that is due comes with the cursor behind it.
-#[derive(Drop)]
+#[derive(Clone, Copy)]
 pub enum Standing {
     OutOfRange,
     Ended,
@@ -59,7 +59,7 @@ pub enum Standing {
 }
 
 // What an operation makes of the cursor. A place that is due comes with the cursor behind it.
-#[derive(Drop)]
+#[derive(Clone, Copy)]
 pub enum Moved {
     On(Cursor),
     Due(Cursor),
@@ -68,7 +68,7 @@ pub enum Moved {
 }
 
 // What a place that is due lacks.
-#[derive(Drop)]
+#[derive(Clone, Copy)]
 pub enum Lack {
     Nothing,
     Lacks(Refusal),

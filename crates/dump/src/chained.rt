@@ -11,7 +11,7 @@ use refusal::Refusal;
 use std::num::{wrapping_add_u64, wrapping_sub_u64};
 
 // How many records are refused; and of the first of them the refusal, the place of the starts and the segment's index.
-#[derive(Drop)]
+#[derive(Clone, Copy)]
 struct Faults {
     count: u64,
     refusal: Refusal,

@@ -38,7 +38,7 @@ const NAMES: [[u8; 56]; ROWS] = [
 // How a list ends: all is listed; all up to a Done, with so many bytes read of so many; there is more than was asked
 // for; so many nodes were visited, and no further; nothing is listed, and the preflight passes; a refusal, with its
 // place and index; or the same of the first of so many records.
-#[derive(Drop)]
+#[derive(Clone, Copy)]
 pub(crate) enum Ending {
     End,
     Done(u64, u64),
@@ -50,7 +50,7 @@ pub(crate) enum Ending {
 }
 
 // A list but for its last line: what waits to be written, the number that the line tells, and its ending.
-#[derive(Drop)]
+#[derive(Clone, Copy)]
 pub(crate) struct List {
     out: Out,
     count: u64,

@@ -5,14 +5,14 @@ use libc::STDIN_FILENO;
 use numbers::parts::part;
 
 // How many bytes, or none.
-#[derive(Drop)]
+#[derive(Clone, Copy)]
 pub(crate) enum Loaded {
     Bytes(usize),
     Not,
 }
 
 // The same, where it matters why there are none. Of a failure that is said already.
-#[derive(Drop)]
+#[derive(Clone, Copy)]
 enum Filled {
     Bytes(usize),
     Failed,

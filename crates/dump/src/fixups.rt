@@ -13,7 +13,7 @@ use refusal::Refusal;
 use std::num::wrapping_sub_u64;
 
 // The record of a segment; or a refusal, with its place and index; or neither.
-#[derive(Drop)]
+#[derive(Clone, Copy)]
 enum Found {
     Record(Segment),
     Refused(Refusal, u64, u64),

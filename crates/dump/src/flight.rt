@@ -20,14 +20,14 @@ const WIDE: [u64; MOST] = [0x4000_0000_0000_0000; MOST];
 
 // The first fault of a stream, by the number of its refusal, which is 0 where there is none; and the byte
 // where its operation starts.
-#[derive(Drop)]
+#[derive(Clone, Copy)]
 pub(crate) struct Fault {
     number: u8,
     position: u64,
 }
 
 // How many sizes there are, and whether all of them are numbers.
-#[derive(Drop)]
+#[derive(Clone, Copy)]
 struct Sizes {
     count: usize,
     fit: bool,

@@ -3,7 +3,7 @@ use libc::STDOUT_FILENO;
 use std::num::{wrapping_add_usize, wrapping_sub_u64};
 
 // How many bytes of the buffer wait to be written, and whether a write has failed.
-#[derive(Drop)]
+#[derive(Clone, Copy)]
 pub(crate) struct Out {
     pub(crate) used: usize,
     pub(crate) broken: bool,

@@ -9,7 +9,7 @@ use bind::{Bind, BindStart, BindStep, BindWalk};
 use numbers::parts::part;
 use rebase::{Rebase, RebaseStart, RebaseStep, RebaseWalk};
 
-#[derive(Drop)]
+#[derive(Clone, Copy)]
 pub(crate) enum Kind {
     Rebase,
     Plain,

@@ -9,7 +9,7 @@ const MOST: usize = 21;
 // The words but for --max and its number, --raw, --help and --version: where they stand among the arguments, and how
 // many are kept; the most items that are to be listed; where the number behind --max stands, which is 0 without it,
 // and whether it is missing; and whether there are the other three.
-#[derive(Drop)]
+#[derive(Clone, Copy)]
 pub(crate) struct Words {
     pub(crate) at: [usize; MOST],
     pub(crate) count: usize,
@@ -21,7 +21,7 @@ pub(crate) struct Words {
     pub(crate) version: bool,
 }
 
-#[derive(Drop)]
+#[derive(Clone, Copy)]
 pub(crate) enum PointerSize {
     Bytes(u8),
     Not,

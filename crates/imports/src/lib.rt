@@ -19,7 +19,7 @@ use refusal::Refusal;
 
 // A symbol that is imported: the addend, the place and length of its name in the lent bytes, the library
 // that it is taken from, and whether it may be missing.
-#[derive(Drop)]
+#[derive(Clone, Copy)]
 pub struct Import {
     pub addend: i64,
     pub place: usize,
@@ -30,7 +30,7 @@ pub struct Import {
 
 // Where the next import is read, where the symbols are, how many imports are left, and their format;
 // and whether the walk has ended by a refusal.
-#[derive(Drop)]
+#[derive(Clone, Copy)]
 pub struct ImportWalk {
     pub place: usize,
     pub symbols_offset: usize,
@@ -39,13 +39,13 @@ pub struct ImportWalk {
     pub ended: bool,
 }
 
-#[derive(Drop)]
+#[derive(Clone, Copy)]
 pub enum ImportStart {
     Begun(ImportWalk),
     Refused(Refusal),
 }
 
-#[derive(Drop)]
+#[derive(Clone, Copy)]
 pub enum ImportStep {
     Item(ImportWalk, Import),
     End(ImportWalk),

@@ -11,7 +11,7 @@ use refusal::Refusal;
 
 // What a record says, dyld_chained_import or one with an addend: where in the symbols the name is, the addend,
 // the library, and whether the symbol may be missing.
-#[derive(Drop)]
+#[derive(Clone, Copy)]
 pub(crate) struct ChainedImport {
     name_offset: u64,
     addend: i64,
@@ -20,14 +20,14 @@ pub(crate) struct ChainedImport {
 }
 
 // A record and the place behind it.
-#[derive(Drop)]
+#[derive(Clone, Copy)]
 pub(crate) enum ChainedImportRead {
     Found(ChainedImport, usize),
     Refused(Refusal),
 }
 
 // An import and the place behind its record.
-#[derive(Drop)]
+#[derive(Clone, Copy)]
 pub(crate) enum ImportRead {
     Found(Import, usize),
     Refused(Refusal),

@@ -6,7 +6,7 @@ use crate::node::{Edge, Node, NodeRead, read_node};
 use refusal::Refusal;
 
 // Its edge and its node; or why it is not entered.
-#[derive(Drop)]
+#[derive(Clone, Copy)]
 pub enum Child {
     Found(Edge, Node),
     Refused(Refusal),

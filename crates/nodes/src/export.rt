@@ -9,27 +9,27 @@ use numbers::strings::{Text, read_string};
 
 // The library that a symbol is taken from, and the place and length in the trie's bytes of the name
 // that it has there. (By mach-o/loader.h an empty name stands for the export's own.)
-#[derive(Drop)]
+#[derive(Clone, Copy)]
 pub struct Import {
     pub ordinal: u64,
     pub place: usize,
     pub length: usize,
 }
 
-#[derive(Drop)]
+#[derive(Clone, Copy)]
 pub enum ExportData {
     Regular { address: u64 },
     Reexport(Import),
     StubAndResolver { stub: u64, resolver: u64 },
 }
 
-#[derive(Drop)]
+#[derive(Clone, Copy)]
 pub struct Export {
     pub flags: u8,
     pub target: ExportData,
 }
 
-#[derive(Drop)]
+#[derive(Clone, Copy)]
 pub(crate) enum ExportRead {
     Read(Export),
     Fault,

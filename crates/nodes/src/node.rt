@@ -7,28 +7,28 @@ use numbers::leb128::{Unsigned, read_uleb};
 use numbers::strings::{Text, read_string};
 
 // What a node exports under its name.
-#[derive(Drop)]
+#[derive(Clone, Copy)]
 pub enum Terminal {
     NoExport,
     Export(Export),
 }
 
 // What a node exports, how many children it has, and the place of the first edge.
-#[derive(Drop)]
+#[derive(Clone, Copy)]
 pub struct Node {
     pub terminal: Terminal,
     pub children: u8,
     pub place: usize,
 }
 
-#[derive(Drop)]
+#[derive(Clone, Copy)]
 pub enum NodeRead {
     Found(Node),
     Fault,
 }
 
 // The place and length of an edge's string, the offset of the child's node, and the place behind.
-#[derive(Drop)]
+#[derive(Clone, Copy)]
 pub struct Edge {
     pub place: usize,
     pub length: usize,
@@ -36,7 +36,7 @@ pub struct Edge {
     pub next: usize,
 }
 
-#[derive(Drop)]
+#[derive(Clone, Copy)]
 pub enum EdgeRead {
     Found(Edge),
     Fault,

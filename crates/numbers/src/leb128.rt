@@ -4,14 +4,14 @@ ghost use Rattle.numbers.specs.Gathered.{gathered_at};
 ghost use Rattle.numbers.specs.Leb128.{uleb_at, sleb_at};
 
 // An unsigned number and the place behind it.
-#[derive(Drop)]
+#[derive(Clone, Copy)]
 pub enum Unsigned {
     Value(u64, usize),
     Fault,
 }
 
 // A signed number and the place behind it.
-#[derive(Drop)]
+#[derive(Clone, Copy)]
 pub enum Signed {
     Value(i64, usize),
     Fault,
@@ -97,7 +97,7 @@ const TENTH: u64 = 0x8000_0000_0000_0000;
 
 // The bytes of a number: those before the last are worth `low`, and the last counts `scale` times;
 // of ten bytes, TENTH times. Cut where the bytes, or ten of them, run out before the last.
-#[derive(Drop)]
+#[derive(Clone, Copy)]
 enum Gathered {
     Few {
         low: u64,

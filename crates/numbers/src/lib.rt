@@ -9,7 +9,7 @@ pub mod parts;
 pub mod strings;
 
 // A field's number and the place behind it.
-#[derive(Drop)]
+#[derive(Clone, Copy)]
 pub enum Number {
     Value(u64, usize),
     Fault,

@@ -4,7 +4,7 @@ ghost use Rattle.numbers.specs.Strings.{is_nul, string_at};
 ghost use Rattle.numbers.specs.Passed.{Passed, nul_within};
 
 // A string: where it starts, its length without the NUL, and the place behind the NUL.
-#[derive(Drop)]
+#[derive(Clone, Copy)]
 pub enum Text {
     Found {
         start: usize,

@@ -11,7 +11,7 @@ use numbers::strings::{Text, read_string};
 use refusal::Refusal;
 
 // A symbol's name is a place and a length in the stream.
-#[derive(Drop)]
+#[derive(Clone, Copy)]
 pub enum BindOperation {
     Done,
     SetDylibOrdinal {
@@ -52,7 +52,7 @@ pub enum BindOperation {
 }
 
 // An operation and the place behind it; the end, where no bytes are left.
-#[derive(Drop)]
+#[derive(Clone, Copy)]
 pub enum BindParse {
     Operation(BindOperation, usize),
     Refused(Refusal),

@@ -9,7 +9,7 @@ use crate::rebase_operation::{RebaseOperation as Op, RebaseParse as Parse};
 use numbers::leb128::{Unsigned, read_uleb};
 use refusal::Refusal;
 
-#[derive(Drop)]
+#[derive(Clone, Copy)]
 pub enum RebaseOperation {
     Done,
     SetType { kind: u8 },
@@ -22,7 +22,7 @@ pub enum RebaseOperation {
 }
 
 // An operation and the place behind it; the end, where no bytes are left.
-#[derive(Drop)]
+#[derive(Clone, Copy)]
 pub enum RebaseParse {
     Operation(RebaseOperation, usize),
     Refused(Refusal),

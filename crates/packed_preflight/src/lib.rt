@@ -15,7 +15,7 @@ use preflight::Verdict;
 use refusal::Refusal;
 
 // Which preflight: what its stream holds.
-#[derive(Drop)]
+#[derive(Clone, Copy)]
 enum Flight {
     Rebases,
     PlainBinds,

@@ -21,7 +21,7 @@ use pointer::Fixup;
 use refusal::Refusal;
 
 // A place that the loader patches, by its offset in the segment, and how.
-#[derive(Drop)]
+#[derive(Clone, Copy)]
 pub struct Patch {
     pub place: u64,
     pub fixup: Fixup,
@@ -31,7 +31,7 @@ pub struct Patch {
 // of the page in the segment, and of the next pointer; what is due; and whether the walk has ended by a
 // refusal. What is due: linked and not more, a pointer, then a page; linked and more, a pointer, then the
 // next chain of the page's list; more alone, that chain; neither, a page.
-#[derive(Drop)]
+#[derive(Clone, Copy)]
 pub struct PageWalk {
     pub segment: Segment,
     pub base: u64,
@@ -44,13 +44,13 @@ pub struct PageWalk {
     pub ended: bool,
 }
 
-#[derive(Drop)]
+#[derive(Clone, Copy)]
 pub enum PageStart {
     Begun(PageWalk),
     Refused(Refusal),
 }
 
-#[derive(Drop)]
+#[derive(Clone, Copy)]
 pub enum PageStep {
     Item(PageWalk, Patch),
     End(PageWalk),
@@ -58,7 +58,7 @@ pub enum PageStep {
 }
 
 // Where a search for the next pointer comes to: a pointer that is due, the end, or beyond the starts.
-#[derive(Drop)]
+#[derive(Clone, Copy)]
 enum Sought {
     At(PageWalk),
     End(PageWalk),

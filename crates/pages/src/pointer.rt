@@ -5,19 +5,19 @@ ghost use Rattle.pages.specs.ChainedPointers.{is_format, is_narrow, minus, narro
 use std::num::wrapping_sub_u64;
 
 // The pointer is to hold this offset from the start of the image, with high8 in its top byte.
-#[derive(Drop)]
+#[derive(Clone, Copy)]
 pub struct Rebase {
     pub target: u64,
 }
 
 // The pointer is to hold the address of the import of this index, plus the addend.
-#[derive(Drop)]
+#[derive(Clone, Copy)]
 pub struct Bind {
     pub ordinal: u64,
     pub addend: u64,
 }
 
-#[derive(Drop)]
+#[derive(Clone, Copy)]
 pub enum Fixup {
     Rebase(Rebase),
     Bind(Bind),

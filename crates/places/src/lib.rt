@@ -10,7 +10,7 @@ pub const LARGEST_SIZE: u64 = 0x4000_0000_0000_0000;
 
 // All places lie inside, and this is the offset behind them; or this is the index of the first that
 // does not; or the segment is larger than any that places are judged in.
-#[derive(Drop)]
+#[derive(Clone, Copy)]
 pub enum Judged {
     Inside(u64),
     Outside(u64),

@@ -13,7 +13,7 @@ use refusal::Refusal;
 
 // Where a preflight stands: the place of the next operation, how many were read, the offset, and what
 // operations have set.
-#[derive(Drop)]
+#[derive(Clone, Copy)]
 pub(crate) struct BindFlight {
     pub(crate) at: usize,
     pub(crate) operations: u64,
@@ -23,7 +23,7 @@ pub(crate) struct BindFlight {
 
 // What one operation comes to: the preflight stands behind it, and it yields so many places; or the
 // preflight is over.
-#[derive(Drop)]
+#[derive(Clone, Copy)]
 pub(crate) enum BindLeg {
     On(BindFlight, u64),
     Said(Verdict),

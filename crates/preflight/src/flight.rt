@@ -17,7 +17,7 @@ const TEXT_PCREL32: u8 = 3;
 
 // What is known of places if some are due: the pointer size, what they lack, their segment and their
 // type.
-#[derive(Drop)]
+#[derive(Clone, Copy)]
 pub(crate) struct Spot {
     pub(crate) size: u8,
     pub(crate) lack: Lack,
@@ -26,7 +26,7 @@ pub(crate) struct Spot {
 }
 
 // The stream goes on at an offset; it ends, and passes; or there is a fault, at an index of the repeat.
-#[derive(Drop)]
+#[derive(Clone, Copy)]
 pub(crate) enum Flown {
     On(u64),
     Pass,

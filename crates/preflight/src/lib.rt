@@ -22,7 +22,7 @@ use refusal::Refusal;
 
 // So many operations were read, Done included; or the first fault, the byte position where its
 // operation starts, and the index in the repeat of a place that is outside.
-#[derive(Drop)]
+#[derive(Clone, Copy)]
 pub enum Verdict {
     Pass(u64),
     Fault(Refusal, u64, u64),

@@ -16,7 +16,7 @@ use refusal::Refusal;
 
 // A place that the loader rebases: its segment, its offset there, and its type. A byte stands first: in
 // a step's answer it lies where a refusal does.
-#[derive(Drop)]
+#[derive(Clone, Copy)]
 pub struct Rebase {
     pub segment: u8,
     pub offset: u64,
@@ -24,7 +24,7 @@ pub struct Rebase {
 }
 
 // What operations have set, but for the offset: a segment and a type, and whether each is set.
-#[derive(Drop)]
+#[derive(Clone, Copy)]
 pub struct Registers {
     pub segment: u8,
     pub kind: u8,
@@ -32,19 +32,19 @@ pub struct Registers {
     pub typed: bool,
 }
 
-#[derive(Drop)]
+#[derive(Clone, Copy)]
 pub struct RebaseWalk {
     pub cursor: Cursor,
     pub registers: Registers,
 }
 
-#[derive(Drop)]
+#[derive(Clone, Copy)]
 pub enum RebaseStart {
     Begun(RebaseWalk),
     Refused(Refusal),
 }
 
-#[derive(Drop)]
+#[derive(Clone, Copy)]
 pub enum RebaseStep {
     Item(RebaseWalk, Rebase),
     End(RebaseWalk),
@@ -52,7 +52,7 @@ pub enum RebaseStep {
 }
 
 // What an operation does: what becomes of the place, and the registers from now on.
-#[derive(Drop)]
+#[derive(Clone, Copy)]
 pub struct RebaseEffect {
     pub motion: Motion,
     pub registers: Registers,

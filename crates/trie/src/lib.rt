@@ -26,7 +26,7 @@ use refusal::Refusal;
 // The first `depth` elements of each array are those of the open nodes, the one on top last: where its
 // next edge is read, its offset, the length of its name, and how many of its children are still to be
 // read. Whether the walk has ended; one that has not and has no node open has not begun.
-#[derive(Drop)]
+#[derive(Clone, Copy)]
 pub struct TrieWalk {
     pub places: [u64; 256],
     pub offsets: [u64; 256],
@@ -37,7 +37,7 @@ pub struct TrieWalk {
 }
 
 // The name of an export is the first `length` bytes of the lent buffer.
-#[derive(Drop)]
+#[derive(Clone, Copy)]
 pub enum TrieAnswer {
     Export { length: u64, export: Export },
     More,
@@ -45,7 +45,7 @@ pub enum TrieAnswer {
     Refused(Refusal),
 }
 
-#[derive(Drop)]
+#[derive(Clone, Copy)]
 pub struct TrieStep {
     pub walk: TrieWalk,
     pub visits: u64,

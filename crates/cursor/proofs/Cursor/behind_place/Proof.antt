@@ -8,4 +8,4 @@ behind_place_spec =
     tie.close
     (tie.spec
     (λ c κs. search rules)
-    (λ c. simp c.wrapping-add-u64.ensures))
+    (λ c. simp c.wrapping_add_u64.ensures))
