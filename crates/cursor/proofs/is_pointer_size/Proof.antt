@@ -9,4 +9,4 @@ is_pointer_size_spec =
     tie.close
     (tie.spec
     (λ c. search (size_four, rules))
-    (λ c. simp (ne_eqb _ _ c.if1.false)))
+    (λ c. simp (ne_eqb _ _ c.if-size-eq4.false)))

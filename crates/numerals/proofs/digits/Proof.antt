@@ -8,18 +8,18 @@ use borrow.Author.Rules.{rules}
 use Rattle.numerals.proofs.digits.Statement.{statement}
 use Rattle.numerals.proofs.digits.Tie as tie
 
-abbrev invariant-loop : tie.invariant-loop
-invariant-loop text base value₀ i₀ value i = in_base base text ≡ behind base value (drop i text)
+abbrev invariant-loop-i : tie.invariant-loop-i
+invariant-loop-i text base value₀ i₀ value i = in_base base text ≡ behind base value (drop i text)
 
-abbrev decreases-loop : tie.decreases-loop
-decreases-loop text base value₀ i₀ value i = length text - i
+abbrev decreases-loop-i : tie.decreases-loop-i
+decreases-loop-i text base value₀ i₀ value i = length text - i
 
 pub digits_spec : {M : Type 1} → statement M
 digits_spec =
     tie.close
     (tie.spec
-    invariant-loop
-    decreases-loop
+    invariant-loop-i
+    decreases-loop-i
     (λ c. search (starts, rules))
     (λ c. search rules)
     (λ c κs. search rules)
@@ -27,7 +27,7 @@ digits_spec =
     (λ c. search rules)
     (λ c. search rules)
     (λ c. search (too_large, rules))
-    (λ c. search (product c.before.before.before.before.before.before.before.args.base c.before.before.before.before.before.loop.value c.before.before.digit.result, rules))
+    (λ c. search (product c.before.before.before.before.before.before.before.args.base c.before.before.before.before.before.loop-i.value c.before.before.digit-d.result, rules))
     (λ c. search (sum, rules))
     (λ c. search rules)
     (λ c. search rules)

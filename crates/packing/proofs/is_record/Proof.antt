@@ -7,18 +7,18 @@ use native.Mathlib.Omega.{arith}
 use Rattle.packing.proofs.is_record.Statement.{statement}
 use Rattle.packing.proofs.is_record.Tie as tie
 
-abbrev invariant-loop : tie.invariant-loop
-invariant-loop s largest i₀ i = Testing s largest i
+abbrev invariant-loop-i : tie.invariant-loop-i
+invariant-loop-i s largest i₀ i = Testing s largest i
 
-abbrev decreases-loop : tie.decreases-loop
-decreases-loop s largest i₀ i = length largest - i
+abbrev decreases-loop-i : tie.decreases-loop-i
+decreases-loop-i s largest i₀ i = length largest - i
 
 pub is_record_spec : {M : Type 1} → statement M
 is_record_spec =
     tie.close
     (tie.spec
-    invariant-loop
-    decreases-loop
+    invariant-loop-i
+    decreases-loop-i
     (λ c. other_length _ _ (λ e. omega (arith, e)))
     (λ c. other_length _ _ (λ e. omega (arith, e)))
     (λ c. search arith)
@@ -28,5 +28,5 @@ is_record_spec =
     (λ c. search (too_large, rules))
     (λ c. search rules)
     (λ c. search rules)
-    (λ c. tests_on _ _ c.before.before.before.before.loop.invariant (search rules) {w = c.before.word.result} (search rules) (search rules))
+    (λ c. tests_on _ _ c.before.before.before.before.loop-i.invariant (search rules) {w = c.before.word.result} (search rules) (search rules))
     (λ c. search (tests_all, rules)))

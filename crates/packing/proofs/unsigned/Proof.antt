@@ -10,8 +10,8 @@ unsigned_spec =
     tie.close
     (tie.spec
     (λ c. search (flip_fits, rules))
-    (λ c. flip_casts c.before.args.z c.before.ranges.z c.if1.true)
+    (λ c. flip_casts c.before.args.z c.before.ranges.z c.if-z-lt0.true)
     (λ c. search (flipped_less, rules))
     (λ c. search (negative_word, rules))
-    (λ c. casts c.before.args.z c.before.ranges.z c.if1.false)
+    (λ c. casts c.before.args.z c.before.ranges.z c.if-z-lt0.false)
     (λ c. search (positive_word, rules)))

@@ -8,19 +8,19 @@ use native.Mathlib.Omega.{arith}
 use Rattle.packing.proofs.write.Statement.{statement}
 use Rattle.packing.proofs.write.Tie as tie
 
-abbrev invariant-loop : tie.invariant-loop
-invariant-loop words s₀ i₀ s i = Writing words s₀ s i
+abbrev invariant-loop-i : tie.invariant-loop-i
+invariant-loop-i words s₀ i₀ s i = Writing words s₀ s i
 
-abbrev decreases-loop : tie.decreases-loop
-decreases-loop words s₀ i₀ s i = length words - i
+abbrev decreases-loop-i : tie.decreases-loop-i
+decreases-loop-i words s₀ i₀ s i = length words - i
 
 pub write_spec : {M : Type 1} → statement M
 unfolding bytes_of
 write_spec =
     tie.close
     (tie.spec
-    invariant-loop
-    decreases-loop
+    invariant-loop-i
+    decreases-loop-i
     (λ c. writes_nothing _ _ (λ e. omega (arith, e)))
     (λ c. writes_nothing _ _ (λ e. omega (arith, e)))
     (λ c. search arith)

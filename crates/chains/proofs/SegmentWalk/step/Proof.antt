@@ -5,18 +5,18 @@ use borrow.Author.Rules.{rules}
 use Rattle.chains.proofs.SegmentWalk.step.Statement.{statement}
 use Rattle.chains.proofs.SegmentWalk.step.Tie as tie
 
-abbrev invariant-loop : tie.invariant-loop
-invariant-loop self s index₀ index = Seeking s self index
+abbrev invariant-loop-index : tie.invariant-loop-index
+invariant-loop-index self s index₀ index = Seeking s self index
 
-abbrev decreases-loop : tie.decreases-loop
-decreases-loop self s index₀ index = self.count - index
+abbrev decreases-loop-index : tie.decreases-loop-index
+decreases-loop-index self s index₀ index = self.count - index
 
 pub step_spec : {M : Type 1} → statement M
 step_spec =
     tie.close
     (tie.spec
-    invariant-loop
-    decreases-loop
+    invariant-loop-index
+    decreases-loop-index
     (λ c κs. search (seeks, rules))
     (λ c. search (seeks, rules))
     (λ c. search (seeks, rules))

@@ -9,18 +9,18 @@ use Rattle.numbers.proofs.strings.Nuls.{eight_laws, eight_passed}
 use Rattle.numbers.proofs.strings.pass.Statement.{statement}
 use Rattle.numbers.proofs.strings.pass.Tie as tie
 
-abbrev invariant-loop : tie.invariant-loop
-invariant-loop s from last at₀ at = Passed is_nul s from at × (last + 8 ≡ length s)
+abbrev invariant-loop-at : tie.invariant-loop-at
+invariant-loop-at s from last at₀ at = Passed is_nul s from at × (last + 8 ≡ length s)
 
-abbrev decreases-loop : tie.decreases-loop
-decreases-loop s from last at₀ at = length s - at
+abbrev decreases-loop-at : tie.decreases-loop-at
+decreases-loop-at s from last at₀ at = length s - at
 
 pub pass_spec : {M : Type 1} → statement M
 pass_spec =
     tie.close
     (tie.spec
-    invariant-loop
-    decreases-loop
+    invariant-loop-at
+    decreases-loop-at
     (λ c. search (eight_laws, arith))
     (λ c. search (eight_laws, arith))
     (λ c. search (eight_laws, arith))
@@ -28,5 +28,5 @@ pass_spec =
     (λ c. search (eight_laws, arith))
     (λ c. search (eight_laws, arith))
     (λ c. search (eight_laws, arith))
-    (λ c. (eight_passed c.before.before.before.loop.invariant.0 c.before.has-nul.ensures c.if2.false (search arith), c.before.before.before.loop.invariant.1))
+    (λ c. (eight_passed c.before.before.before.loop-at.invariant.0 c.before.has_nul.ensures c.if-has_nul.false (search arith), c.before.before.before.loop-at.invariant.1))
     (λ c. search (eight_laws, arith)))

@@ -8,18 +8,18 @@ use Rattle.numbers.proofs.strings.Nuls.{string_laws}
 use Rattle.numbers.proofs.strings.read_string.Statement.{statement}
 use Rattle.numbers.proofs.strings.read_string.Tie as tie
 
-abbrev invariant-loop : tie.invariant-loop
-invariant-loop s from at₀ at = Passed is_nul s from at
+abbrev invariant-loop-at : tie.invariant-loop-at
+invariant-loop-at s from at₀ at = Passed is_nul s from at
 
-abbrev decreases-loop : tie.decreases-loop
-decreases-loop s from at₀ at = length s - at
+abbrev decreases-loop-at : tie.decreases-loop-at
+decreases-loop-at s from at₀ at = length s - at
 
 pub read_string_spec : {M : Type 1} → statement M
 read_string_spec =
     tie.close
     (tie.spec
-    invariant-loop
-    decreases-loop
+    invariant-loop-at
+    decreases-loop-at
     (λ c κs. search (string_laws, arith))
     (λ c. search (string_laws, arith))
     (λ c. search (string_laws, arith))
