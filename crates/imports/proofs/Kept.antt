@@ -15,9 +15,9 @@ use Rattle.imports.proofs.Calls.{InRange, none_out}
 
 module _ (s : List ℕ) (w : ImportWalk) where
   -- a state out of range is refused, 19, and comes back as it came
-  pub out_of_range : out_of_range w.place w.symbols_offset (length s) ≡ true → call s w ≡ refused (number_of StateOutOfRange) w
+  pub out_of_range_lem : out_of_range w.place w.symbols_offset (length s) ≡ true → call s w ≡ refused (number_of StateOutOfRange) w
   unfolding call
-  out_of_range e = rw e
+  out_of_range_lem e = rw e
 
   module _ (i : InRange w.place w.symbols_offset (length s)) where
     -- the state that is handed back with an end, and with a refusal

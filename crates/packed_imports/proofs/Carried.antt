@@ -6,7 +6,7 @@ use mathlib.Core.List.{List, [], ◌∷◌}
 use native.Mathlib.Omega.{arith}
 use lib.ListN.{length, get_or}
 use Rattle.imports.proofs.Joined.{joined}
-use Rattle.imports.proofs.Kept.{out_of_range}
+use Rattle.imports.proofs.Kept.{out_of_range_lem}
 use Rattle.imports.proofs.Typed.{Typed, TypedImport, typed_begin, typed_call, typed_item}
 use Rattle.imports.specs.Call.{begin, out_of_range, call}
 use Rattle.imports.specs.Listing.{listing}
@@ -125,4 +125,4 @@ module _ (s : List ℕ) (short : length s < 2 ^ 64) where
   pub out_of_range_back : (state item : List ℕ) → Bytes state → is_record state state_fields ≡ true → length item ≡ 40 →
       out_of_range (state_at state).place (state_at state).symbols_offset (length s) ≡ true → stepped states items state item (call s) ≡ (19, state, items.blank)
   out_of_range_back state i b h l r =
-      refused_back states items Typed faithful long (call s) (typed_call s short) state b h i l (out_of_range s (state_at state) r)
+      refused_back states items Typed faithful long (call s) (typed_call s short) state b h i l (out_of_range_lem s (state_at state) r)

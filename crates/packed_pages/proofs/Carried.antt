@@ -28,7 +28,7 @@ use Rattle.packing.specs.Calls.{lent, through, recorded}
 use Rattle.packing.specs.Fields.{is_record, is_set, bit}
 use Rattle.packing.specs.Words.{word_at, words_from, bytes_of}
 use Rattle.pages.proofs.Joined.{joined}
-use Rattle.pages.proofs.Kept.{out_of_range}
+use Rattle.pages.proofs.Kept.{out_of_range_lem}
 use Rattle.pages.proofs.Typed.{Typed, TypedFixup, typed_begin, typed_call, typed_item}
 use Rattle.pages.specs.Call.{begin, out_of_range, call}
 use Rattle.pages.specs.ChainedPointers.{rebase, bind, patch}
@@ -188,4 +188,4 @@ module _ (s contents : List ℕ) where
       stepped states items state item (call s contents) ≡ (19, state, items.blank)
   out_of_range_back state i b h l r =
       refused_back states items Typed faithful long (call s contents) (typed_call s contents) state b h i l
-      (out_of_range s contents (state_at state) r)
+      (out_of_range_lem s contents (state_at state) r)

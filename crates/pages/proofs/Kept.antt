@@ -11,9 +11,9 @@ use Rattle.runs.specs.Runs.{end, refused}
 
 module _ (s d : List ℕ) (w : PageWalk) where
   -- a state out of range is refused, 19, and comes back as it came
-  pub out_of_range : out_of_range w (length s) ≡ true → call s d w ≡ refused (number_of StateOutOfRange) w
+  pub out_of_range_lem : out_of_range w (length s) ≡ true → call s d w ≡ refused (number_of StateOutOfRange) w
   unfolding call
-  out_of_range e = rw e
+  out_of_range_lem e = rw e
 
   module _ (i : out_of_range w (length s) ≡ false) where
     -- any other refusal hands back the state as given, marked as ended

@@ -12,20 +12,20 @@ use Rattle.operations.proofs.Laws.{bind_told_lem}
 use Rattle.bind.proofs.BindWalk.read.Statement.{statement}
 use Rattle.bind.proofs.BindWalk.read.Tie as tie
 
-abbrev invariant-loop : tie.invariant-loop
-invariant-loop self s cursor₀ registers₀ cursor registers =
+abbrev invariant-loop-e : tie.invariant-loop-e
+invariant-loop-e self s cursor₀ registers₀ cursor registers =
     Reading binds s (view self) (read binds (view self) (stream_at binds s self.cursor.at) (view self)) cursor registers
 
-abbrev decreases-loop : tie.decreases-loop
-decreases-loop self s cursor₀ registers₀ cursor registers = length s - cursor.at
+abbrev decreases-loop-e : tie.decreases-loop-e
+decreases-loop-e self s cursor₀ registers₀ cursor registers = length s - cursor.at
 
 pub read_spec : {M : Type 1} → statement M
 unfolding answered read before
 read_spec =
     tie.close
     (tie.spec
-    invariant-loop
-    decreases-loop
+    invariant-loop-e
+    decreases-loop-e
     (λ c. record { same = refl })
     (λ c κs. search rules)
     (λ c. search rules)

@@ -9,4 +9,4 @@ weak_spec =
     (tie.spec
     (λ c κs. search rules)
     (λ c κs. search rules)
-    (λ c. simp (c.start.ensures, c.before.unset.ensures)))
+    (λ c. simp (c.start.ensures, c.before.unset-g.ensures)))

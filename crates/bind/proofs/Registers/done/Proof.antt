@@ -10,5 +10,5 @@ done_spec =
     (λ c κs. search rules)
     (λ c κs. search rules)
     (λ c κs. search rules)
-    (λ c. simp (c.and.ensures, c.before.lazily.ensures, c.before.before.if1.true))
-    (λ c. simp (c.and2.ensures, c.before.if1.false)))
+    (λ c. simp (c.and.ensures, c.before.lazily-g.ensures, c.before.before.if-self.true))
+    (λ c. simp (c.and-else-self.ensures, c.before.if-self.false)))

@@ -8,7 +8,7 @@ lack_spec =
     tie.close
     (tie.spec
     (λ c. search rules)
-    (λ c. simp (c.before.before.before.if1.true, c.before.before.if2.true, c.before.if3.true, c.if4.false))
-    (λ c. simp (c.before.before.if1.true, c.before.if2.true, c.if3.false))
-    (λ c. simp (c.before.if1.true, c.if2.false))
-    (λ c. simp c.if1.false))
+    (λ c. simp (c.before.before.before.if-self.true, c.before.before.if-self-2.true, c.before.if-self-3.true, c.if-self-4.false))
+    (λ c. simp (c.before.before.if-self.true, c.before.if-self-2.true, c.if-self-3.false))
+    (λ c. simp (c.before.if-self.true, c.if-self-2.false))
+    (λ c. simp c.if-self.false))

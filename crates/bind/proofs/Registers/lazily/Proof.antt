@@ -8,4 +8,4 @@ lazily_spec =
     tie.close
     (tie.spec
     (λ c κs. search rules)
-    (λ c. simp c.unset.ensures))
+    (λ c. simp c.unset-g.ensures))

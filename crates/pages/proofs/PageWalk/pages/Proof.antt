@@ -4,18 +4,18 @@ use Rattle.pages.proofs.Calls.{Paging, paging}
 use Rattle.pages.proofs.PageWalk.pages.Statement.{statement}
 use Rattle.pages.proofs.PageWalk.pages.Tie as tie
 
-abbrev invariant-loop : tie.invariant-loop
-invariant-loop s segment w₀ w = Paging s w₀ w
+abbrev invariant-loop-w : tie.invariant-loop-w
+invariant-loop-w s segment w₀ w = Paging s w₀ w
 
-abbrev decreases-loop : tie.decreases-loop
-decreases-loop s segment w₀ w = w₀.segment.page_count - w.page
+abbrev decreases-loop-w : tie.decreases-loop-w
+decreases-loop-w s segment w₀ w = w₀.segment.page_count - w.page
 
 pub pages_spec : {M : Type 1} → statement M
 pages_spec =
     tie.close
     (tie.spec
-    invariant-loop
-    decreases-loop
+    invariant-loop-w
+    decreases-loop-w
     (λ c. search (paging, rules))
     (λ c. search (paging, rules))
     (λ c κs. search (paging, rules))

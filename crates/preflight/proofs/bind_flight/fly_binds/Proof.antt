@@ -11,19 +11,19 @@ use Rattle.preflight.proofs.Machines.{bind_placed}
 use Rattle.preflight.proofs.bind_flight.fly_binds.Statement.{statement}
 use Rattle.preflight.proofs.bind_flight.fly_binds.Tie as tie
 
-abbrev invariant-loop : tie.invariant-loop
-invariant-loop s size sizes flight₀ flight =
+abbrev invariant-loop-next : tie.invariant-loop-next
+invariant-loop-next s size sizes flight₀ flight =
     Flying binds size sizes s (with_sizes binds flight₀.registers size sizes s) (bind_view flight)
 
-abbrev decreases-loop : tie.decreases-loop
-decreases-loop s size sizes flight₀ flight = length s - flight.at
+abbrev decreases-loop-next : tie.decreases-loop-next
+decreases-loop-next s size sizes flight₀ flight = length s - flight.at
 
 pub fly_binds_spec : {M : Type 1} → statement M
 fly_binds_spec =
     tie.close
     (tie.spec
-    invariant-loop
-    decreases-loop
+    invariant-loop-next
+    decreases-loop-next
     (λ c κs. search rules)
     (λ c. search (not_fit binds, rules))
     (λ c. search (takes_off binds, rules))

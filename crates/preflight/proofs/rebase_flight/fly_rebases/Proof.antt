@@ -11,19 +11,19 @@ use Rattle.preflight.proofs.Machines.{rebase_placed}
 use Rattle.preflight.proofs.rebase_flight.fly_rebases.Statement.{statement}
 use Rattle.preflight.proofs.rebase_flight.fly_rebases.Tie as tie
 
-abbrev invariant-loop : tie.invariant-loop
-invariant-loop s size sizes flight₀ flight =
+abbrev invariant-loop-next : tie.invariant-loop-next
+invariant-loop-next s size sizes flight₀ flight =
     Flying rebases size sizes s (with_sizes rebases flight₀.registers size sizes s) (rebase_view flight)
 
-abbrev decreases-loop : tie.decreases-loop
-decreases-loop s size sizes flight₀ flight = length s - flight.at
+abbrev decreases-loop-next : tie.decreases-loop-next
+decreases-loop-next s size sizes flight₀ flight = length s - flight.at
 
 pub fly_rebases_spec : {M : Type 1} → statement M
 fly_rebases_spec =
     tie.close
     (tie.spec
-    invariant-loop
-    decreases-loop
+    invariant-loop-next
+    decreases-loop-next
     (λ c κs. search rules)
     (λ c. search (not_fit rebases, rules))
     (λ c. search (takes_off rebases, rules))

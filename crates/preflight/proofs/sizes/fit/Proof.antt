@@ -6,18 +6,18 @@ use Rattle.preflight.proofs.Small.{Seen, size_laws}
 use Rattle.preflight.proofs.sizes.fit.Statement.{statement}
 use Rattle.preflight.proofs.sizes.fit.Tie as tie
 
-abbrev invariant-loop : tie.invariant-loop
-invariant-loop sizes i₀ i = Seen sizes i
+abbrev invariant-loop-i : tie.invariant-loop-i
+invariant-loop-i sizes i₀ i = Seen sizes i
 
-abbrev decreases-loop : tie.decreases-loop
-decreases-loop sizes i₀ i = length sizes - i
+abbrev decreases-loop-i : tie.decreases-loop-i
+decreases-loop-i sizes i₀ i = length sizes - i
 
 pub fit_spec : {M : Type 1} → statement M
 fit_spec =
     tie.close
     (tie.spec
-    invariant-loop
-    decreases-loop
+    invariant-loop-i
+    decreases-loop-i
     (λ c. search (size_laws, rules))
     (λ c. search (size_laws, rules))
     (λ c. search rules)

@@ -8,5 +8,5 @@ lack_spec =
     tie.close
     (tie.spec
     (λ c. search rules)
-    (λ c. simp (c.before.if1.true, c.if2.false))
-    (λ c. simp c.if1.false))
+    (λ c. simp (c.before.if-self.true, c.if-self-2.false))
+    (λ c. simp c.if-self.false))

@@ -8,18 +8,18 @@ use native.Mathlib.Omega.{arith}
 use Rattle.trie.proofs.TrieWalk.onward.Statement.{statement}
 use Rattle.trie.proofs.TrieWalk.onward.Tie as tie
 
-abbrev invariant-loop : tie.invariant-loop
-invariant-loop self s name₀ limit done w₀ visits₀ name w visits = Going s self limit done w₀ name₀ w name visits
+abbrev invariant-loop-self : tie.invariant-loop-self
+invariant-loop-self self s name₀ limit done w₀ visits₀ name w visits = Going s self limit done w₀ name₀ w name visits
 
-abbrev decreases-loop : tie.decreases-loop
-decreases-loop self s name₀ limit done w₀ visits₀ name w visits = limit - visits
+abbrev decreases-loop-self : tie.decreases-loop-self
+decreases-loop-self self s name₀ limit done w₀ visits₀ name w visits = limit - visits
 
 pub onward_spec : {M : Type 1} → statement M
 onward_spec =
     tie.close
     (tie.spec
-    invariant-loop
-    decreases-loop
+    invariant-loop-self
+    decreases-loop-self
     (λ c. search (visiting, rules))
     (λ c κs. search (visiting, rules))
     (λ c κs. search (visiting, rules))

@@ -6,18 +6,18 @@ use lib.Dec.{eqb}
 use Rattle.trie.proofs.frames.is_open.Statement.{statement}
 use Rattle.trie.proofs.frames.is_open.Tie as tie
 
-abbrev invariant-loop : tie.invariant-loop
-invariant-loop offsets depth offset d₀ d = Looking (λ y. eqb y offset) offsets depth d
+abbrev invariant-loop-d : tie.invariant-loop-d
+invariant-loop-d offsets depth offset d₀ d = Looking (λ y. eqb y offset) offsets depth d
 
-abbrev decreases-loop : tie.decreases-loop
-decreases-loop offsets depth offset d₀ d = d
+abbrev decreases-loop-d : tie.decreases-loop-d
+decreases-loop-d offsets depth offset d₀ d = d
 
 pub is_open_spec : {M : Type 1} → statement M
 is_open_spec =
     tie.close
     (tie.spec
-    invariant-loop
-    decreases-loop
+    invariant-loop-d
+    decreases-loop-d
     (λ c. search (looking, picks, rules))
     (λ c. search (looking, picks, rules))
     (λ c. search (looking, picks, rules))

@@ -6,18 +6,18 @@ use lib.Dec.{ltb}
 use Rattle.trie.proofs.frames.one_above.Statement.{statement}
 use Rattle.trie.proofs.frames.one_above.Tie as tie
 
-abbrev invariant-loop : tie.invariant-loop
-invariant-loop xs depth bound d₀ d = Looking (λ y. ltb bound y) xs depth d
+abbrev invariant-loop-d : tie.invariant-loop-d
+invariant-loop-d xs depth bound d₀ d = Looking (λ y. ltb bound y) xs depth d
 
-abbrev decreases-loop : tie.decreases-loop
-decreases-loop xs depth bound d₀ d = d
+abbrev decreases-loop-d : tie.decreases-loop-d
+decreases-loop-d xs depth bound d₀ d = d
 
 pub one_above_spec : {M : Type 1} → statement M
 one_above_spec =
     tie.close
     (tie.spec
-    invariant-loop
-    decreases-loop
+    invariant-loop-d
+    decreases-loop-d
     (λ c. search (looking, picks, rules))
     (λ c. search (looking, picks, rules))
     (λ c. search (looking, picks, rules))

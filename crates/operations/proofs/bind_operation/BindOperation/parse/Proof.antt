@@ -66,4 +66,4 @@ parse_spec =
     (λ c. search (no_byte bind_table, has_row bind_table, reads, rules))
     (λ c. search (no_byte bind_table, has_row bind_table, reads, rules))
     (λ c. search (no_byte bind_table, has_row bind_table, reads, rules))
-    (λ c. has_no_row bind_table _ _ c.before.before.before.if-s-at.false 13 c.match.rest refl (search rules)))
+    (λ c. has_no_row bind_table _ _ c.before.before.before.if-s-at.false 13 c.in-13-to-255.in-13-to-255-own.rest refl (search rules)))

@@ -52,4 +52,4 @@ parse_spec =
     (λ c. search (no_byte rebase_table, has_row rebase_table, reads, rules))
     (λ c. search (no_byte rebase_table, has_row rebase_table, reads, rules))
     (λ c. search (no_byte rebase_table, has_row rebase_table, reads, rules))
-    (λ c. has_no_row rebase_table _ _ c.before.before.before.if-s-at.false 9 c.match.rest refl (search rules)))
+    (λ c. has_no_row rebase_table _ _ c.before.before.before.if-s-at.false 9 c.in-9-to-255.in-9-to-255-own.rest refl (search rules)))
