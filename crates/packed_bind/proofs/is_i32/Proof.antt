@@ -7,5 +7,5 @@ pub is_i32_spec : {M : Type 1} → statement M
 is_i32_spec =
     tie.close
     (tie.spec
-    (λ c. rw (le-leb _ _ c.if1.true))
-    (λ c. rw (lt-leb _ _ c.if1.false)))
+    (λ c. rw (le-leb _ _ c.if-v-le2147483647.true))
+    (λ c. rw (lt-leb _ _ c.if-v-le2147483647.false)))

@@ -18,4 +18,4 @@ item_words_spec =
     (λ c.
     let x = c.before.before.before.before.before.before.before.before.args.x in
     let library = narrow_word {z = x.library} (search rules) c.before.before.before.unsigned.ensures in
-    cc (library, signed_word {z = x.addend} (search rules) c.unsigned2.ensures)))
+    cc (library, signed_word {z = x.addend} (search rules) c.unsigned-2.ensures)))

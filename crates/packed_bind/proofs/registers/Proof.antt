@@ -34,5 +34,5 @@ registers_spec =
     (λ c.
     let library = c.before.before.before.before.before.signed.result in
     let narrow = to_z-of_z {w = w32} {z = library} (search (i32_fits, library_is, rules)) in
-    let addend = to_z-of_z {w = w64} {z = c.signed2.result} (search rules) in
+    let addend = to_z-of_z {w = w64} {z = c.signed-2.result} (search rules) in
     cc (to_z-of_z {w = w64} {z = library} (search rules), narrow, addend)))

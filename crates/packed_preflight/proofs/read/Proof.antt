@@ -5,18 +5,18 @@ use borrow.Author.Rules.{rules}
 use Rattle.packed_preflight.proofs.read.Statement.{statement}
 use Rattle.packed_preflight.proofs.read.Tie as tie
 
-abbrev invariant-loop : tie.invariant-loop
-invariant-loop s words₀ i₀ words i = Reading s 0 17 words i
+abbrev invariant-loop-i : tie.invariant-loop-i
+invariant-loop-i s words₀ i₀ words i = Reading s 0 17 words i
 
-abbrev decreases-loop : tie.decreases-loop
-decreases-loop s words₀ i₀ words i = 17 - i
+abbrev decreases-loop-i : tie.decreases-loop-i
+decreases-loop-i s words₀ i₀ words i = 17 - i
 
 pub read_spec : {M : Type 1} → statement M
 read_spec =
     tie.close
     (tie.spec
-    invariant-loop
-    decreases-loop
+    invariant-loop-i
+    decreases-loop-i
     (λ c. search (reads_none, rules))
     (λ c κs. search rules)
     (λ c. search rules)

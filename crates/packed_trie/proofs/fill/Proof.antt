@@ -5,18 +5,18 @@ use borrow.Author.Rules.{rules}
 use Rattle.packed_trie.proofs.fill.Statement.{statement}
 use Rattle.packed_trie.proofs.fill.Tie as tie
 
-abbrev invariant-loop : tie.invariant-loop
-invariant-loop s first words₀ i₀ words i = Reading s first 256 words i
+abbrev invariant-loop-i : tie.invariant-loop-i
+invariant-loop-i s first words₀ i₀ words i = Reading s first 256 words i
 
-abbrev decreases-loop : tie.decreases-loop
-decreases-loop s first words₀ i₀ words i = 256 - i
+abbrev decreases-loop-i : tie.decreases-loop-i
+decreases-loop-i s first words₀ i₀ words i = 256 - i
 
 pub fill_spec : {M : Type 1} → statement M
 fill_spec =
     tie.close
     (tie.spec
-    invariant-loop
-    decreases-loop
+    invariant-loop-i
+    decreases-loop-i
     (λ c. search (reads_none, rules))
     (λ c. search rules)
     (λ c κs. search rules)

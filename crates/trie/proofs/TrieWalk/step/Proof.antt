@@ -14,24 +14,24 @@ step_spec =
     (λ c κs. search rules)
     (λ c.
     let o = c.before.before in
-    is_out _ _ _ _ o.out_of_range.ensures c.before.if1.true {r = c.answer.result} (search c.answer.ensures))
+    is_out _ _ _ _ o.out_of_range.ensures c.before.if-out_of_range.true {r = c.answer.result} (search c.answer.ensures))
     (λ c κs. search rules)
     (λ c.
     let o = c.before.before.before in
-    is_ended _ _ _ _ o.out_of_range.ensures c.before.before.if1.false c.before.if2.true {r = c.answer2.result} (search c.answer2.ensures))
+    is_ended _ _ _ _ o.out_of_range.ensures c.before.before.if-out_of_range.false c.before.if-self.true {r = c.answer-then-self.result} (search c.answer-then-self.ensures))
     (λ c κs. search rules)
     (λ c.
     let o = c.before.before.before.before in
-    is_none _ _ _ _ o.out_of_range.ensures c.before.before.before.if1.false c.before.before.if2.false c.before.if3.true {r = c.answer3.result} (search c.answer3.ensures))
+    is_none _ _ _ _ o.out_of_range.ensures c.before.before.before.if-out_of_range.false c.before.before.if-self.false c.before.if-limit-eq0.true {r = c.answer-then-limit-eq0.result} (search c.answer-then-limit-eq0.ensures))
     (λ c κs. search rules)
     (λ c. search rules)
     (λ c.
     let o = c.before.before.before.before.before.before.before.before in
-    is_first _ _ _ _ o.out_of_range.ensures c.before.before.before.before.before.before.before.if1.false c.before.before.before.before.before.before.if2.false c.before.before.before.before.before.if3.false c.before.before.before.before.if4.true (search c.before.before.root.ensures))
+    is_first _ _ _ _ o.out_of_range.ensures c.before.before.before.before.before.before.before.if-out_of_range.false c.before.before.before.before.before.before.if-self.false c.before.before.before.before.before.if-limit-eq0.false c.before.before.before.before.if-self-eq0.true (search c.before.before.root.ensures))
     (λ c κs.
     let o = c.before.before.before.before.before in
-    (range_fits _ _ _ _ _ o.out_of_range.ensures c.before.before.before.before.if1.false, omega arith))
+    (range_fits _ _ _ _ _ o.out_of_range.ensures c.before.before.before.before.if-out_of_range.false, omega arith))
     (λ c. search rules)
     (λ c.
     let o = c.before.before.before.before.before.before.before.before in
-    is_begun _ _ _ _ o.out_of_range.ensures c.before.before.before.before.before.before.before.if1.false c.before.before.before.before.before.before.if2.false c.before.before.before.before.before.if3.false c.before.before.before.before.if4.false (search c.before.before.onward.ensures)))
+    is_begun _ _ _ _ o.out_of_range.ensures c.before.before.before.before.before.before.before.if-out_of_range.false c.before.before.before.before.before.before.if-self.false c.before.before.before.before.before.if-limit-eq0.false c.before.before.before.before.if-self-eq0.false (search c.before.before.onward.ensures)))

@@ -1,0 +1,15 @@
+-- `packed_imports::tell` tells each of the three answers. Assumes nothing.
+use Rattle.std.proofs.Common.{rules}
+use Rattle.packing.proofs.Boundary.{reports, tells}
+use Rattle.packed_imports.specs.Packed.{states, items}
+use Rattle.imports.specs.Told.{told}
+use Rattle.packed_imports.proofs.tell.Goals as goal
+
+pub returns-in-Item : goal.returns-in-Item
+returns-in-Item c = search (tells states items told, reports, rules)
+
+pub returns-in-End : goal.returns-in-End
+returns-in-End c = search (tells states items told, reports, rules)
+
+pub returns-in-Refused : goal.returns-in-Refused
+returns-in-Refused c = search (tells states items told, reports, rules)
