@@ -9,5 +9,5 @@ item_words_spec =
     (tie.spec
     (λ c. search rules)
     (λ c. search rules)
-    (λ c. rw c.before.fixup.given.1)
+    (λ c. rw c.before.fixup-1.given.1)
     (λ c. rw c.before.fixup2.given.1))
