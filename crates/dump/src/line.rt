@@ -2,7 +2,7 @@
 ghost use Rattle.std.specs.Prelude.{◌≤◌, ◌<◌};
 
 use crate::{Host, usage};
-use std::io::{Error, Print, Stderr, Stdout};
+use std::io::{Error, ErrorKind, Print, Stderr, Stdout};
 use std::num::{wrapping_add_usize, wrapping_sub_u64};
 
 const ROOM: usize = 4096;
@@ -80,13 +80,18 @@ impl Out {
         lines.write(used)
     }
 
-    // The last of it is written. Where that failed, or a write before, the reason is said.
+    // The last of it is written. Where that failed, or a write before, the reason is said; but where nobody reads on,
+    // nothing is.
     pub(crate) fn finish(self, lines: &mut Lines) {
         if !self.write(lines) {
             return;
         }
-        if let Some(why) = lines.failure {
-            usage::fail(&lines.complaints, b"dump: standard output", why);
+        let Some(why) = lines.failure else {
+            return;
+        };
+        match why.kind() {
+            ErrorKind::BrokenPipe => {}
+            _ => usage::fail(&lines.complaints, b"dump: standard output", why),
         }
     }
 
