@@ -1,5 +1,6 @@
 // What is printed is gathered in a buffer. It is written where it is full, and at the end.
-ghost use Rattle.std.specs.Prelude.{◌≤◌, ◌<◌};
+ghost use Rattle.std.specs.Prelude.{◌≡◌, ◌-◌, ◌^◌, ◌<◌, ◌≤◌, drop};
+ghost use Rattle.dump.specs.Digits.{ascii_digit, last_digits};
 
 use crate::{Host, usage};
 use std::io::{Error, ErrorKind, Print, Stderr, Stdout};
@@ -189,9 +190,13 @@ const DIGITS: usize = 20;
 // Puts the digits of a number in a base to the end of the room, with zeros in front up to a width, and tells where
 // they begin.
 fn write_digits(n: u64, base: u64, width: usize, room: &mut [u8; DIGITS]) -> usize
-    requires low { 1 < base }
+    requires low { 10 ≤ base }
     requires high { base ≤ 16 }
-    ensures { result ≤ 20 }
+    ensures within { result ≤ 20 }
+    ensures digits { drop result room.new ≡ last_digits base (20 - result) n }
+    ensures whole { n < base ^ (20 - result) }
+    ensures padded { width ≤ 20 → width ≤ 20 - result }
+    ensures shortest { width < 20 - result → base ^ (20 - result - 1) ≤ n }
 {
     let mut at = DIGITS;
     let mut rest = n;
@@ -205,6 +210,7 @@ fn write_digits(n: u64, base: u64, width: usize, room: &mut [u8; DIGITS]) -> usi
 
 fn digit(d: u64) -> u8
     requires { d < 16 }
+    ensures { result ≡ ascii_digit d }
 {
     if d < 10 {
         b'0' + d as u8
