@@ -7,18 +7,18 @@ use Rattle.std.proofs.Common.{rules}
 use Rattle.laps.proofs.chained.segment_lap.Statement.{statement}
 use Rattle.laps.proofs.chained.segment_lap.Tie as tie
 
-abbrev invariant-loop : tie.invariant-loop
-invariant-loop s d base limit w₀ left₀ sum₀ w left sum = Lapped fixup_place (call s d) (lap fixup_place (call s d) limit 0 w₀) left sum w
+abbrev invariant-loop-left : tie.invariant-loop-left
+invariant-loop-left s d base limit w₀ left₀ sum₀ w left sum = Lapped fixup_place (call s d) (lap fixup_place (call s d) limit 0 w₀) left sum w
 
-abbrev decreases-loop : tie.decreases-loop
-decreases-loop s d base limit w₀ left₀ sum₀ w left sum = left
+abbrev decreases-loop-left : tie.decreases-loop-left
+decreases-loop-left s d base limit w₀ left₀ sum₀ w left sum = left
 
 pub segment_lap_spec : {M : Type 1} → statement M
 segment_lap_spec =
     tie.close
     (tie.spec
-    invariant-loop
-    decreases-loop
+    invariant-loop-left
+    decreases-loop-left
     (λ c κs. search rules)
     (λ c. search rules)
     (λ c. search rules)

@@ -6,18 +6,18 @@ use Rattle.trie.specs.Call.{at_start}
 use Rattle.laps.proofs.exports.laps_trie.Statement.{statement}
 use Rattle.laps.proofs.exports.laps_trie.Tie as tie
 
-abbrev invariant-loop : tie.invariant-loop
-invariant-loop trie name₀ limit w₀ left₀ sum₀ name w left sum = Named trie (trie_lap trie limit 0 (at_start 256) name₀) (length name₀) left sum w name
+abbrev invariant-loop-left : tie.invariant-loop-left
+invariant-loop-left trie name₀ limit w₀ left₀ sum₀ name w left sum = Named trie (trie_lap trie limit 0 (at_start 256) name₀) (length name₀) left sum w name
 
-abbrev decreases-loop : tie.decreases-loop
-decreases-loop trie name₀ limit w₀ left₀ sum₀ name w left sum = left
+abbrev decreases-loop-left : tie.decreases-loop-left
+decreases-loop-left trie name₀ limit w₀ left₀ sum₀ name w left sum = left
 
 pub laps_trie_spec : {M : Type 1} → statement M
 laps_trie_spec =
     tie.close
     (tie.spec
-    invariant-loop
-    decreases-loop
+    invariant-loop-left
+    decreases-loop-left
     (λ c κs. search rules)
     (λ c. search (named_laws, rules))
     (λ c κs. search rules)

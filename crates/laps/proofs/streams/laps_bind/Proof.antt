@@ -8,18 +8,18 @@ use Rattle.std.proofs.Common.{rules}
 use Rattle.laps.proofs.streams.laps_bind.Statement.{statement}
 use Rattle.laps.proofs.streams.laps_bind.Tie as tie
 
-abbrev invariant-loop : tie.invariant-loop
-invariant-loop stream size limit w₀ left₀ sum₀ w left sum = Lapped bind_offset (call binds stream) (lap bind_offset (call binds stream) limit 0 (view w₀)) left sum (view w)
+abbrev invariant-loop-left : tie.invariant-loop-left
+invariant-loop-left stream size limit w₀ left₀ sum₀ w left sum = Lapped bind_offset (call binds stream) (lap bind_offset (call binds stream) limit 0 (view w₀)) left sum (view w)
 
-abbrev decreases-loop : tie.decreases-loop
-decreases-loop stream size limit w₀ left₀ sum₀ w left sum = left
+abbrev decreases-loop-left : tie.decreases-loop-left
+decreases-loop-left stream size limit w₀ left₀ sum₀ w left sum = left
 
 pub laps_bind_spec : {M : Type 1} → statement M
 laps_bind_spec =
     tie.close
     (tie.spec
-    invariant-loop
-    decreases-loop
+    invariant-loop-left
+    decreases-loop-left
     (λ c κs. search rules)
     (λ c. search rules)
     (λ c. search rules)
