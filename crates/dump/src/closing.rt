@@ -1,5 +1,5 @@
 // The closing line: how a list ends.
-use crate::line::{Out, trimmed};
+use crate::line::{Lines, Out, trimmed};
 use numbers::parts::part;
 use refusal::Refusal;
 
@@ -62,7 +62,7 @@ pub(crate) fn listed(out: Out, count: u64, ending: Ending) -> List {
 }
 
 // The last line, and then all is written.
-pub(crate) fn close(lines: &mut [u8], list: List) {
+pub(crate) fn close(lines: &mut Lines, list: List) {
     let ending = list.ending;
     match ending {
         Ending::End => counted(lines, list.out, b"end  items ", list.count),
@@ -79,37 +79,37 @@ pub(crate) fn close(lines: &mut [u8], list: List) {
     }
 }
 
-fn counted(lines: &mut [u8], out: Out, what: &[u8], n: u64) {
+fn counted(lines: &mut Lines, out: Out, what: &[u8], n: u64) {
     let out = out.decimal(lines, what, 0, n);
     out.byte(lines, b'\n').finish(lines);
 }
 
-fn done(lines: &mut [u8], list: List, read: u64, of: u64) {
+fn done(lines: &mut Lines, list: List, read: u64, of: u64) {
     let out = list.out.decimal(lines, b"end  items ", 0, list.count);
     let out = out.decimal(lines, b"  read ", 0, read);
     let out = out.decimal(lines, b"  of ", 0, of);
     out.byte(lines, b'\n').finish(lines);
 }
 
-fn spent(lines: &mut [u8], list: List, nodes: u64) {
+fn spent(lines: &mut Lines, list: List, nodes: u64) {
     let out = list.out.decimal(lines, b"spent  items ", 0, list.count);
     let out = out.decimal(lines, b"  nodes ", 0, nodes);
     out.byte(lines, b'\n').finish(lines);
 }
 
-fn refused(lines: &mut [u8], out: Out, e: Refusal, place: u64, index: u64) {
+fn refused(lines: &mut Lines, out: Out, e: Refusal, place: u64, index: u64) {
     let out = numbered(lines, out, e, place, index);
     name(lines, out, e).finish(lines);
 }
 
-fn numbered(lines: &mut [u8], out: Out, e: Refusal, place: u64, index: u64) -> Out {
+fn numbered(lines: &mut Lines, out: Out, e: Refusal, place: u64, index: u64) -> Out {
     let out = out.decimal(lines, b"refused  number ", 0, e.number() as u64);
     let out = out.decimal(lines, b"  place ", 0, place);
     out.decimal(lines, b"  index ", 0, index)
 }
 
 // The end of a line: a refusal's name in words.
-pub(crate) fn name(lines: &mut [u8], out: Out, e: Refusal) -> Out {
+pub(crate) fn name(lines: &mut Lines, out: Out, e: Refusal) -> Out {
     let row = row_of(e.number());
     if ROWS <= row {
         return out.byte(lines, b'\n');
@@ -132,7 +132,7 @@ fn row_of(number: u8) -> usize {
     row
 }
 
-fn titled(lines: &mut [u8], out: Out, name: &[u8; 56]) -> Out {
+fn titled(lines: &mut Lines, out: Out, name: &[u8; 56]) -> Out {
     let s = &name[..];
     let out = out.quoted(lines, b"  name ", part(s, 0, trimmed(s)));
     out.byte(lines, b'\n')

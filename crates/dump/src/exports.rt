@@ -1,9 +1,9 @@
 // The exports trie.
 use crate::closing::{Ending, List, close, listed};
 use crate::file::{Loaded, load_stream};
-use crate::line::Out;
-use crate::usage;
+use crate::line::{Lines, Out};
 use crate::words::Words;
+use crate::{Host, usage};
 use nodes::export::{Export, ExportData};
 use numbers::parts::part;
 use trie::{TrieAnswer, TrieWalk};
@@ -12,20 +12,23 @@ use trie::{TrieAnswer, TrieWalk};
 // can list more than any run would come to the end of, and none of them an export.
 const NODES: u64 = 0x100_0000;
 
-pub(crate) fn list(w: Words, room: &mut [u8]) {
-    if !w.are(2, usage::EXPORTS) {
+// The most bytes of a name.
+const LONGEST: usize = 65536;
+
+pub(crate) fn list(rt: &impl Host, w: Words, room: &mut [u8]) {
+    if !w.are(rt, 2, usage::EXPORTS) {
         return;
     }
-    let Loaded::Bytes(n) = load_stream(w.at[1], w.raw, room) else {
+    let Loaded::Bytes(n) = load_stream(rt, w.at[1], w.raw, room) else {
         return;
     };
-    let mut lines = io::buffer();
-    let mut name = io::large_buffer();
+    let mut lines = Lines::start(rt);
+    let mut name = [0; LONGEST];
     let list = each(part(room, 0, n), &mut name, w.max, &mut lines);
     close(&mut lines, list);
 }
 
-fn each(s: &[u8], name: &mut [u8], max: u64, lines: &mut [u8]) -> List {
+fn each(s: &[u8], name: &mut [u8], max: u64, lines: &mut Lines) -> List {
     let mut w = TrieWalk::start();
     let mut out = Out::start();
     let mut count: u64 = 0;
@@ -66,7 +69,7 @@ fn place(w: TrieWalk) -> u64 {
     0
 }
 
-fn exported(lines: &mut [u8], out: Out, x: Export, name: &[u8], s: &[u8]) -> Out {
+fn exported(lines: &mut Lines, out: Out, x: Export, name: &[u8], s: &[u8]) -> Out {
     let target = x.target;
     let out = out.hex(lines, b"export  flags ", 2, x.flags as u64);
     let out = targeted(lines, out, target);
@@ -75,7 +78,7 @@ fn exported(lines: &mut [u8], out: Out, x: Export, name: &[u8], s: &[u8]) -> Out
     out.byte(lines, b'\n')
 }
 
-fn targeted(lines: &mut [u8], out: Out, target: ExportData) -> Out {
+fn targeted(lines: &mut Lines, out: Out, target: ExportData) -> Out {
     match target {
         ExportData::Regular { address } => {
             let out = out.hex(lines, b"  address ", 16, address);
@@ -93,7 +96,7 @@ fn targeted(lines: &mut [u8], out: Out, target: ExportData) -> Out {
 }
 
 // Of a symbol that is taken from another library, the name that it has there.
-fn imported(lines: &mut [u8], out: Out, target: ExportData, s: &[u8]) -> Out {
+fn imported(lines: &mut Lines, out: Out, target: ExportData, s: &[u8]) -> Out {
     match target {
         ExportData::Reexport(import) => out.quoted(lines, b"  import ", import.name(s)),
         _ => out,

@@ -1,9 +1,9 @@
 // Chained fixups: those of one segment.
 use crate::closing::{Ending, List, close, listed};
 use crate::file::{Loaded, load_segment, load_stream};
-use crate::line::Out;
+use crate::line::{Lines, Out};
 use crate::words::Words;
-use crate::{usage, words};
+use crate::{Host, usage, words};
 use chains::{Segment, SegmentStart, SegmentStep, SegmentWalk};
 use numbers::parts::part;
 use numerals::Numeral;
@@ -20,31 +20,31 @@ enum Found {
     Not,
 }
 
-pub(crate) fn list(w: Words, room: &mut [u8]) {
-    if !w.are(5, usage::FIXUPS) {
+pub(crate) fn list(rt: &impl Host, w: Words, room: &mut [u8]) {
+    if !w.are(rt, 5, usage::FIXUPS) {
         return;
     }
-    let Numeral::Value(index) = words::number(w.at[2], b"index", usage::FIXUPS) else {
+    let Numeral::Value(index) = words::number(rt, w.at[2], b"index", usage::FIXUPS) else {
         return;
     };
-    let Numeral::Value(base) = words::number(w.at[4], b"base", usage::FIXUPS) else {
+    let Numeral::Value(base) = words::number(rt, w.at[4], b"base", usage::FIXUPS) else {
         return;
     };
-    if words::is(w.at[1], b"-") && words::is(w.at[3], b"-") {
-        usage::wrong(b"only one FILE may be -", usage::FIXUPS);
+    if words::is(rt, w.at[1], b"-") && words::is(rt, w.at[3], b"-") {
+        usage::wrong(rt, b"only one FILE may be -", usage::FIXUPS);
         return;
     }
-    let Loaded::Bytes(n) = load_stream(w.at[1], w.raw, room) else {
+    let Loaded::Bytes(n) = load_stream(rt, w.at[1], w.raw, room) else {
         return;
     };
-    let Loaded::Bytes(m) = load_segment(w.at[3], w.raw, room, n) else {
+    let Loaded::Bytes(m) = load_segment(rt, w.at[3], w.raw, room, n) else {
         return;
     };
-    list_of(part(room, 0, n), part(room, n, m), index, base, w);
+    list_of(rt, part(room, 0, n), part(room, n, m), index, base, w);
 }
 
-fn list_of(s: &[u8], d: &[u8], index: u64, base: u64, w: Words) {
-    let mut lines = io::buffer();
+fn list_of(rt: &impl Host, s: &[u8], d: &[u8], index: u64, base: u64, w: Words) {
+    let mut lines = Lines::start(rt);
     match find(s, index) {
         Found::Record(g) => {
             let list = patches(PageWalk::start(s, g, base), s, d, w.max, &mut lines);
@@ -56,7 +56,7 @@ fn list_of(s: &[u8], d: &[u8], index: u64, base: u64, w: Words) {
                 listed(Out::start(), 0, Ending::Refused(e, place, at)),
             );
         }
-        Found::Not => usage::unfit(w.at[2], b"no segment of this index has fixups"),
+        Found::Not => usage::unfit(rt, w.at[2], b"no segment of this index has fixups"),
     }
 }
 
@@ -92,14 +92,14 @@ fn find_from(start: SegmentWalk, s: &[u8], index: u64) -> Found {
     Found::Not
 }
 
-fn patches(start: PageStart, s: &[u8], d: &[u8], max: u64, lines: &mut [u8]) -> List {
+fn patches(start: PageStart, s: &[u8], d: &[u8], max: u64, lines: &mut Lines) -> List {
     match start {
         PageStart::Begun(w) => each(w, s, d, max, lines),
         PageStart::Refused(e) => listed(Out::start(), 0, Ending::Refused(e, 0, 0)),
     }
 }
 
-fn each(start: PageWalk, s: &[u8], d: &[u8], max: u64, lines: &mut [u8]) -> List {
+fn each(start: PageWalk, s: &[u8], d: &[u8], max: u64, lines: &mut Lines) -> List {
     let mut w = start;
     let mut out = Out::start();
     let mut count: u64 = 0;
@@ -127,7 +127,7 @@ fn place(w: PageWalk) -> u64 {
     if w.linked { w.offset } else { w.origin }
 }
 
-fn fixup(lines: &mut [u8], out: Out, x: Patch) -> Out {
+fn fixup(lines: &mut Lines, out: Out, x: Patch) -> Out {
     let how = x.fixup;
     match how {
         Fixup::Rebase(r) => {

@@ -3,10 +3,10 @@ ghost use Rattle.std.specs.Prelude.{◌≤◌};
 
 use crate::closing::{Ending, List, close, listed};
 use crate::file::{Loaded, load_stream};
-use crate::line::Out;
+use crate::line::{Lines, Out};
 use crate::streams::{Kind, kind_of};
 use crate::words::{PointerSize, Words};
-use crate::{usage, words};
+use crate::{Host, usage, words};
 use numbers::parts::part;
 use numerals::Numeral;
 use preflight::Verdict;
@@ -33,41 +33,41 @@ struct Sizes {
     fit: bool,
 }
 
-pub(crate) fn judge(w: Words, room: &mut [u8]) {
+pub(crate) fn judge(rt: &impl Host, w: Words, room: &mut [u8]) {
     if w.count < 4 {
-        usage::wrong(b"too few words", usage::PREFLIGHT);
+        usage::wrong(rt, b"too few words", usage::PREFLIGHT);
         return;
     }
-    let kind = kind_of(w.at[1]);
+    let kind = kind_of(rt, w.at[1]);
     match kind {
-        Kind::Unknown => usage::no_kind(w.at[1]),
-        _ => judge_kind(kind, w, room),
+        Kind::Unknown => usage::no_kind(rt, w.at[1]),
+        _ => judge_kind(rt, kind, w, room),
     }
 }
 
-fn judge_kind(kind: Kind, w: Words, room: &mut [u8]) {
-    let PointerSize::Bytes(size) = words::pointer_size(w.at[2], usage::PREFLIGHT) else {
+fn judge_kind(rt: &impl Host, kind: Kind, w: Words, room: &mut [u8]) {
+    let PointerSize::Bytes(size) = words::pointer_size(rt, w.at[2], usage::PREFLIGHT) else {
         return;
     };
     let mut sizes = [0; MOST];
-    let gathered = gather(w, &mut sizes);
+    let gathered = gather(rt, w, &mut sizes);
     if !gathered.fit {
         return;
     }
-    let Loaded::Bytes(n) = load_stream(w.at[3], w.raw, room) else {
+    let Loaded::Bytes(n) = load_stream(rt, w.at[3], w.raw, room) else {
         return;
     };
     let verdict = verdict(kind, part(room, 0, n), size, &sizes, gathered.count);
-    close(&mut io::buffer(), told(verdict));
+    close(&mut Lines::start(rt), told(verdict));
 }
 
-fn gather(w: Words, sizes: &mut [u64; MOST]) -> Sizes
+fn gather(rt: &impl Host, w: Words, sizes: &mut [u64; MOST]) -> Sizes
     ensures { result.count ≤ 17 }
 {
     let mut count = 0;
     while count < MOST && count + 4 < w.count {
         let word = count + 4;
-        match words::number(w.at[word], b"size", usage::PREFLIGHT) {
+        match words::number(rt, w.at[word], b"size", usage::PREFLIGHT) {
             Numeral::Value(n) => {
                 sizes[count] = n;
             }

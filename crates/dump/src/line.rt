@@ -1,6 +1,46 @@
-// What is printed is gathered in a buffer that is lent. It is written where it is full, and at the end.
-use libc::STDOUT_FILENO;
+// What is printed is gathered in a buffer. It is written where it is full, and at the end.
+ghost use Rattle.std.specs.Prelude.{◌≡◌, ◌-◌, ◌^◌, ◌<◌, ◌≤◌, drop};
+ghost use Rattle.dump.specs.Digits.{ascii_digit, last_digits};
+
+use crate::{Host, usage};
+use std::io::{Error, ErrorKind, Print, Stderr, Stdout};
 use std::num::{wrapping_add_usize, wrapping_sub_u64};
+
+const ROOM: usize = 4096;
+
+// The buffer; where it is written to, and where it is said if that fails; and why it did.
+#[derive(Drop)]
+pub(crate) struct Lines {
+    room: [u8; ROOM],
+    to: Stdout,
+    complaints: Stderr,
+    failure: Option<Error>,
+}
+
+impl Lines {
+    pub(crate) fn start(rt: &impl Host) -> Lines {
+        Lines {
+            room: [0; ROOM],
+            to: rt.output(),
+            complaints: rt.error(),
+            failure: None,
+        }
+    }
+
+    // Writes so much of the buffer. Whether that failed.
+    fn write(&mut self, used: usize) -> bool
+        requires { used ≤ 4096 }
+    {
+        let room = &self.room[..];
+        match self.to.write_all(&room[..used]) {
+            Ok(()) => false,
+            Err(e) => {
+                self.failure = Some(e);
+                true
+            }
+        }
+    }
+}
 
 // How many bytes of the buffer wait to be written, and whether a write has failed.
 #[derive(Clone, Copy)]
@@ -17,40 +57,46 @@ impl Out {
         }
     }
 
-    pub(crate) fn byte(self, lines: &mut [u8], b: u8) -> Out {
+    pub(crate) fn byte(self, lines: &mut Lines, b: u8) -> Out {
         let mut used = self.used;
         let mut broken = self.broken;
-        if lines.len() <= used {
+        if ROOM <= used {
             broken = self.write(lines);
             used = 0;
         }
-        if used < lines.len() {
-            lines[used] = b;
-            used += 1;
-        }
+        lines.room[used] = b;
+        used += 1;
         Out { used, broken }
     }
 
     // Whether a write has failed, this one or one before.
-    fn write(self, lines: &[u8]) -> bool {
+    fn write(self, lines: &mut Lines) -> bool {
         let used = self.used;
         if self.broken {
             return true;
         }
-        if lines.len() < used {
+        if ROOM < used {
             return true;
         }
-        !io::write_all(STDOUT_FILENO, &lines[0..used])
+        lines.write(used)
     }
 
-    // The last of it is written. Where that failed, or a write before, the reason is said.
-    pub(crate) fn finish(self, lines: &[u8]) {
-        if self.write(lines) {
-            os::fail(b"dump: standard output");
+    // The last of it is written. Where that failed, or a write before, the reason is said; but where nobody reads on,
+    // nothing is.
+    pub(crate) fn finish(self, lines: &mut Lines) {
+        if !self.write(lines) {
+            return;
+        }
+        let Some(why) = lines.failure else {
+            return;
+        };
+        match why.kind() {
+            ErrorKind::BrokenPipe => {}
+            _ => usage::fail(&lines.complaints, b"dump: standard output", why),
         }
     }
 
-    pub(crate) fn text(self, lines: &mut [u8], s: &[u8]) -> Out {
+    pub(crate) fn text(self, lines: &mut Lines, s: &[u8]) -> Out {
         let mut out = self;
         let mut i = 0;
         while i < s.len() {
@@ -61,7 +107,7 @@ impl Out {
     }
 
     // Blanks up to a width, of which so much is used.
-    fn pad(self, lines: &mut [u8], width: usize, used: usize) -> Out {
+    fn pad(self, lines: &mut Lines, width: usize, used: usize) -> Out {
         let mut out = self;
         let mut i = used;
         while i < width {
@@ -72,43 +118,43 @@ impl Out {
     }
 
     // A number behind its label, to the right of a column.
-    pub(crate) fn decimal(self, lines: &mut [u8], label: &[u8], width: usize, n: u64) -> Out {
-        let mut digits = [0u8; 20];
-        let k = io::decimal(n, &mut digits);
+    pub(crate) fn decimal(self, lines: &mut Lines, label: &[u8], width: usize, n: u64) -> Out {
+        let mut digits = [0; DIGITS];
+        let at = write_digits(n, 10, 1, &mut digits);
         self.text(lines, label)
-            .pad(lines, width, k)
-            .text(lines, &digits[..k])
+            .pad(lines, width, DIGITS - at)
+            .text(lines, &digits[at..])
     }
 
     // The same with its sign, where it is negative.
-    pub(crate) fn signed(self, lines: &mut [u8], label: &[u8], width: usize, n: i64) -> Out {
+    pub(crate) fn signed(self, lines: &mut Lines, label: &[u8], width: usize, n: i64) -> Out {
         let bits = packing::unsigned(n);
         if 0 <= n {
             return self.decimal(lines, label, width, bits);
         }
-        let mut digits = [0u8; 20];
-        let k = io::decimal(wrapping_sub_u64(0, bits), &mut digits);
+        let mut digits = [0; DIGITS];
+        let at = write_digits(wrapping_sub_u64(0, bits), 10, 1, &mut digits);
         self.text(lines, label)
-            .pad(lines, width, wrapping_add_usize(k, 1))
+            .pad(lines, width, wrapping_add_usize(DIGITS - at, 1))
             .byte(lines, b'-')
-            .text(lines, &digits[..k])
+            .text(lines, &digits[at..])
     }
 
-    pub(crate) fn library(self, lines: &mut [u8], width: usize, n: i32) -> Out {
+    pub(crate) fn library(self, lines: &mut Lines, width: usize, n: i32) -> Out {
         self.signed(lines, b"  library ", width, n as i64)
     }
 
     // With zeros in front, up to a width.
-    pub(crate) fn hex(self, lines: &mut [u8], label: &[u8], width: usize, n: u64) -> Out {
-        let mut digits = [0u8; 16];
-        let k = io::hex(n, width, &mut digits);
+    pub(crate) fn hex(self, lines: &mut Lines, label: &[u8], width: usize, n: u64) -> Out {
+        let mut digits = [0; DIGITS];
+        let at = write_digits(n, 16, width, &mut digits);
         self.text(lines, label)
             .text(lines, b"0x")
-            .text(lines, &digits[..k])
+            .text(lines, &digits[at..])
     }
 
     // A name behind its label, in quotes. Bytes outside printable ASCII are escaped.
-    pub(crate) fn quoted(self, lines: &mut [u8], label: &[u8], s: &[u8]) -> Out {
+    pub(crate) fn quoted(self, lines: &mut Lines, label: &[u8], s: &[u8]) -> Out {
         let mut out = self.text(lines, label).byte(lines, b'"');
         let mut i = 0;
         while i < s.len() {
@@ -119,22 +165,57 @@ impl Out {
     }
 
     // The end of a line: an addend and a name.
-    pub(crate) fn symbol(self, lines: &mut [u8], addend: i64, name: &[u8]) -> Out {
+    pub(crate) fn symbol(self, lines: &mut Lines, addend: i64, name: &[u8]) -> Out {
         let out = self.signed(lines, b"  addend ", 20, addend);
         let out = out.quoted(lines, b"  name ", name);
         out.byte(lines, b'\n')
     }
 
-    fn escaped(self, lines: &mut [u8], b: u8) -> Out {
+    fn escaped(self, lines: &mut Lines, b: u8) -> Out {
         match b {
             b'"' | b'\\' => self.byte(lines, b'\\').byte(lines, b),
             b' '..=b'~' => self.byte(lines, b),
             _ => {
-                let mut digits = [0u8; 16];
-                let k = io::hex(b as u64, 2, &mut digits);
-                self.text(lines, b"\\x").text(lines, &digits[..k])
+                let mut digits = [0; DIGITS];
+                let at = write_digits(b as u64, 16, 2, &mut digits);
+                self.text(lines, b"\\x").text(lines, &digits[at..])
             }
         }
+    }
+}
+
+// As many digits as the largest number has.
+const DIGITS: usize = 20;
+
+// Puts the digits of a number in a base to the end of the room, with zeros in front up to a width, and tells where
+// they begin.
+fn write_digits(n: u64, base: u64, width: usize, room: &mut [u8; DIGITS]) -> usize
+    requires low { 10 ≤ base }
+    requires high { base ≤ 16 }
+    ensures within { result ≤ 20 }
+    ensures digits { drop result room.new ≡ last_digits base (20 - result) n }
+    ensures whole { n < base ^ (20 - result) }
+    ensures padded { width ≤ 20 → width ≤ 20 - result }
+    ensures shortest { width < 20 - result → base ^ (20 - result - 1) ≤ n }
+{
+    let mut at = DIGITS;
+    let mut rest = n;
+    while 0 < at && (0 < rest || DIGITS - at < width) {
+        at -= 1;
+        room[at] = digit(rest % base);
+        rest /= base;
+    }
+    at
+}
+
+fn digit(d: u64) -> u8
+    requires { d < 16 }
+    ensures { result ≡ ascii_digit d }
+{
+    if d < 10 {
+        b'0' + d as u8
+    } else {
+        b'a' - 10 + d as u8
     }
 }
 

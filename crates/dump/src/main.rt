@@ -15,71 +15,90 @@ mod usage;
 mod words;
 
 use numerals::Numeral;
+use std::io::{Input, Stderr, Stdout};
+use std::rt::{Env, Files};
 use streams::Kind;
 use words::Words;
 
 // Room for the bytes of all the files that a command reads, one byte of it spare.
 const ROOM: usize = 7 * 1024 * 1024;
 
-fn main() {
-    let mut room = [0; ROOM];
-    let words = words::collect();
-    if words.help {
-        usage::help();
-    } else if words.version {
-        usage::version();
-    } else if words.count == 0 {
-        usage::none();
-    } else {
-        run(words, &mut room);
+// What is asked of the system: the arguments, files and standard input, and the two streams that are written to.
+pub(crate) trait Host: Env + Files + Input {
+    fn output(&self) -> Stdout;
+
+    fn error(&self) -> Stderr;
+}
+
+impl Host for HostRuntime {
+    fn output(&self) -> Stdout {
+        self.stdout()
+    }
+
+    fn error(&self) -> Stderr {
+        self.stderr()
     }
 }
 
-fn run(w: Words, whole: &mut [u8; ROOM]) {
+fn main(rt: HostRuntime) {
+    let mut room = [0; ROOM];
+    let words = words::collect(&rt);
+    if words.help {
+        usage::help(&rt);
+    } else if words.version {
+        usage::version(&rt);
+    } else if words.count == 0 {
+        usage::none(&rt);
+    } else {
+        run(&rt, words, &mut room);
+    }
+}
+
+fn run(rt: &impl Host, w: Words, whole: &mut [u8; ROOM]) {
     let room = &mut whole[..];
-    let row = row_of(w.at[0]);
+    let row = row_of(rt, w.at[0]);
     if row == usage::ROWS {
-        usage::no_command(w.at[0]);
+        usage::no_command(rt, w.at[0]);
         return;
     }
-    let Numeral::Value(max) = w.most(row) else {
+    let Numeral::Value(max) = w.most(rt, row) else {
         return;
     };
-    list(row, w.limited(max), room);
+    list(rt, row, w.limited(max), room);
 }
 
 // The row of a command; behind them all where it is none.
-fn row_of(command: usize) -> usize {
-    if words::is(command, b"preflight") {
+fn row_of(rt: &impl Host, command: usize) -> usize {
+    if words::is(rt, command, b"preflight") {
         usage::PREFLIGHT
-    } else if words::is(command, b"exports") {
+    } else if words::is(rt, command, b"exports") {
         usage::EXPORTS
-    } else if words::is(command, b"segments") {
+    } else if words::is(rt, command, b"segments") {
         usage::SEGMENTS
-    } else if words::is(command, b"imports") {
+    } else if words::is(rt, command, b"imports") {
         usage::IMPORTS
-    } else if words::is(command, b"fixups") {
+    } else if words::is(rt, command, b"fixups") {
         usage::FIXUPS
     } else {
-        match streams::kind_of(command) {
+        match streams::kind_of(rt, command) {
             Kind::Unknown => usage::ROWS,
             _ => usage::STREAM,
         }
     }
 }
 
-fn list(row: usize, w: Words, room: &mut [u8]) {
+fn list(rt: &impl Host, row: usize, w: Words, room: &mut [u8]) {
     if row == usage::PREFLIGHT {
-        flight::judge(w, room);
+        flight::judge(rt, w, room);
     } else if row == usage::EXPORTS {
-        exports::list(w, room);
+        exports::list(rt, w, room);
     } else if row == usage::SEGMENTS {
-        chained::list_segments(w, room);
+        chained::list_segments(rt, w, room);
     } else if row == usage::IMPORTS {
-        chained::list_imports(w, room);
+        chained::list_imports(rt, w, room);
     } else if row == usage::FIXUPS {
-        fixups::list(w, room);
+        fixups::list(rt, w, room);
     } else {
-        streams::list(w, room);
+        streams::list(rt, w, room);
     }
 }

@@ -1,7 +1,9 @@
 // What is said of the program itself, and of a command that is wrong.
 use crate::line::trimmed;
-use libc::{STDERR_FILENO, STDOUT_FILENO};
+use crate::{Host, words};
 use numbers::parts::part;
+use std::fmt::Write;
+use std::io::{Error, Print};
 
 pub(crate) const ROWS: usize = 6;
 
@@ -28,169 +30,241 @@ const LINES: [[u8; 59]; ROWS] = [
     *b"fixups FILE INDEX SEGMENT_FILE BASE                        ",
 ];
 
-pub(crate) fn help() {
-    all(STDOUT_FILENO);
-    io::write_all(
-        STDOUT_FILENO,
+pub(crate) fn help(rt: &impl Host) {
+    let to = rt.output();
+    all(&to);
+    put(
+        &to,
         b"Status of ./dump: 0 where the last line is end, cut or pass, 1 where it is refused, and 2 where there is none.\n",
     );
 }
 
-pub(crate) fn version() {
-    io::write_all(STDOUT_FILENO, b"dump 4.0.0\n");
-    io::write_all(
-        STDOUT_FILENO,
+pub(crate) fn version(rt: &impl Host) {
+    let to = rt.output();
+    put(&to, b"dump 4.0.0\n");
+    put(
+        &to,
         b"Reads little-endian rebase, bind, weak bind and lazy bind streams, exports tries, and chained fixups with pointer formats 2, 3 and 6 and import formats 1, 2 and 3.\n",
     );
 }
 
 // All commands, where no word names one.
-pub(crate) fn none() {
-    all(STDERR_FILENO);
+pub(crate) fn none(rt: &impl Host) {
+    all(&rt.error());
 }
 
-fn all(fd: i32) {
+// A write that fails is let go.
+fn put(to: &impl Print, text: &[u8]) {
+    let _ = to.write_all(text);
+}
+
+fn all(to: &impl Print) {
     let mut row = 0;
     while row < ROWS {
-        used(fd, row);
+        used(to, row);
         row += 1;
     }
-    more(fd);
+    more(to);
 }
 
-fn used(fd: i32, row: usize) {
+fn used(to: &impl Print, row: usize) {
     if row == 0 {
-        io::write_all(fd, b"usage: dump ");
+        put(to, b"usage: dump ");
     } else {
-        io::write_all(fd, b"       dump ");
+        put(to, b"       dump ");
     }
-    line(fd, row);
+    line(to, row);
 }
 
-fn more(fd: i32) {
-    io::write_all(
-        fd,
+fn more(to: &impl Print) {
+    put(
+        to,
         b"A FILE has the bare bytes of a stream, a trie, chained fixups or a segment. One FILE of a command may be -, which is standard input.\n",
     );
-    io::write_all(
-        fd,
+    put(
+        to,
         b"Numbers are decimal, or hexadecimal behind 0x, and below 2^64. With --max N, no more than N items are listed.\n",
     );
-    io::write_all(
-        fd,
+    put(
+        to,
         b"With --raw, a FILE that begins as a Mach-O file does is read as it is.\n",
     );
 }
 
-fn line(fd: i32, row: usize) {
+fn line(to: &impl Print, row: usize) {
     if ROWS <= row {
         return;
     }
     let lines = LINES;
     let line = lines[row];
-    whole(fd, &line);
+    whole(to, &line);
 }
 
-fn whole(fd: i32, line: &[u8; 59]) {
+fn whole(to: &impl Print, line: &[u8; 59]) {
     let s = &line[..];
-    io::write_all(fd, part(s, 0, trimmed(s)));
-    io::write_all(fd, b"\n");
+    put(to, part(s, 0, trimmed(s)));
+    put(to, b"\n");
 }
 
-pub(crate) fn say(text: &[u8]) {
-    io::write_all(STDERR_FILENO, text);
+pub(crate) fn say(rt: &impl Host, text: &[u8]) {
+    put(&rt.error(), text);
 }
 
 // How one command is used.
-pub(crate) fn of(row: usize) {
-    say(b"usage: dump ");
-    line(STDERR_FILENO, row);
+pub(crate) fn of(rt: &impl Host, row: usize) {
+    say(rt, b"usage: dump ");
+    line(&rt.error(), row);
 }
 
 // What is wrong with an argument that a command makes something of.
-pub(crate) fn unfit(i: usize, why: &[u8]) {
-    say(b"dump: ");
-    word(i);
-    say(b": ");
-    say(why);
-    say(b"\n");
+pub(crate) fn unfit(rt: &impl Host, i: usize, why: &[u8]) {
+    say(rt, b"dump: ");
+    word(rt, i);
+    say(rt, b": ");
+    say(rt, why);
+    say(rt, b"\n");
 }
 
-fn word(i: usize) {
-    let mut word = io::buffer();
-    let n = os::arg(i, &mut word);
-    say(&word[..n]);
+fn word(rt: &impl Host, i: usize) {
+    let mut word = [0; words::LONGEST];
+    let n = words::get(rt, i, &mut word);
+    say(rt, &word[..n]);
 }
 
-fn quoted(i: usize) {
-    say(b"\"");
-    word(i);
-    say(b"\"");
+fn quoted(rt: &impl Host, i: usize) {
+    say(rt, b"\"");
+    word(rt, i);
+    say(rt, b"\"");
 }
 
 // A word that is wrong is named, and how the command is used is said behind it.
-pub(crate) fn no_command(i: usize) {
-    say(b"dump: no command ");
-    quoted(i);
-    say(b"\n");
-    none();
+pub(crate) fn no_command(rt: &impl Host, i: usize) {
+    say(rt, b"dump: no command ");
+    quoted(rt, i);
+    say(rt, b"\n");
+    none(rt);
 }
 
-pub(crate) fn no_kind(i: usize) {
-    say(b"dump: no kind of stream ");
-    quoted(i);
-    say(b"\n");
-    of(PREFLIGHT);
+pub(crate) fn no_kind(rt: &impl Host, i: usize) {
+    say(rt, b"dump: no kind of stream ");
+    quoted(rt, i);
+    say(rt, b"\n");
+    of(rt, PREFLIGHT);
 }
 
-pub(crate) fn no_number(what: &[u8], i: usize, row: usize) {
-    say(b"dump: ");
-    say(what);
-    say(b" ");
-    quoted(i);
-    say(b" is no number\n");
-    of(row);
+pub(crate) fn no_number(rt: &impl Host, what: &[u8], i: usize, row: usize) {
+    say(rt, b"dump: ");
+    say(rt, what);
+    say(rt, b" ");
+    quoted(rt, i);
+    say(rt, b" is no number\n");
+    of(rt, row);
 }
 
-pub(crate) fn too_many(i: usize, row: usize) {
-    say(b"dump: one word too many, ");
-    quoted(i);
-    say(b"\n");
-    of(row);
+pub(crate) fn too_many(rt: &impl Host, i: usize, row: usize) {
+    say(rt, b"dump: one word too many, ");
+    quoted(rt, i);
+    say(rt, b"\n");
+    of(rt, row);
 }
 
 // What is wrong with a command, but for its words.
-pub(crate) fn wrong(what: &[u8], row: usize) {
-    say(b"dump: ");
-    say(what);
-    say(b"\n");
-    of(row);
+pub(crate) fn wrong(rt: &impl Host, what: &[u8], row: usize) {
+    say(rt, b"dump: ");
+    say(rt, what);
+    say(rt, b"\n");
+    of(rt, row);
 }
 
 // A file is more than what is read of it: the first half of a sentence, and two second halves.
-pub(crate) fn image(i: usize, fat: bool) {
-    say(b"dump: ");
-    word(i);
+pub(crate) fn image(rt: &impl Host, i: usize, fat: bool) {
+    say(rt, b"dump: ");
+    word(rt, i);
     if fat {
-        say(b" is a fat file of Mach-O files");
+        say(rt, b" is a fat file of Mach-O files");
     } else {
-        say(b" is a Mach-O file");
+        say(rt, b" is a Mach-O file");
     }
-    say(b", and this reads the bare bytes of a ");
+    say(rt, b", and this reads the bare bytes of a ");
 }
 
-pub(crate) fn where_streams_are() {
+pub(crate) fn where_streams_are(rt: &impl Host) {
     say(
+        rt,
         b"stream: the load command LC_DYLD_INFO_ONLY, LC_DYLD_EXPORTS_TRIE or LC_DYLD_CHAINED_FIXUPS",
     );
-    where_they_are();
+    where_they_are(rt);
 }
 
-pub(crate) fn where_segments_are() {
-    say(b"segment: the load command LC_SEGMENT_64 or LC_SEGMENT");
-    where_they_are();
+pub(crate) fn where_segments_are(rt: &impl Host) {
+    say(rt, b"segment: the load command LC_SEGMENT_64 or LC_SEGMENT");
+    where_they_are(rt);
 }
 
-fn where_they_are() {
-    say(b" says where they are in the file (with --raw, the file is read as it is)\n");
+fn where_they_are(rt: &impl Host) {
+    say(
+        rt,
+        b" says where they are in the file (with --raw, the file is read as it is)\n",
+    );
+}
+
+// What the system did not do, and why.
+pub(crate) fn fail(to: &impl Print, what: &[u8], why: Error) {
+    let mut reason = Reason::start();
+    let _ = write!(reason, "{why}");
+    put(to, what);
+    put(to, b": ");
+    put(to, reason.words());
+    put(to, b"\n");
+}
+
+// The text of an error, as much of it as there is room for.
+#[derive(Drop)]
+struct Reason {
+    text: [u8; 256],
+    used: usize,
+}
+
+impl Reason {
+    fn start() -> Reason {
+        Reason {
+            text: [0; 256],
+            used: 0,
+        }
+    }
+
+    fn byte(&mut self, b: u8) {
+        let used = self.used;
+        if used < 256 {
+            self.text[used] = b;
+            self.used = used + 1;
+        }
+    }
+
+    // But for the number that the system has for it, which stands in brackets behind the words.
+    fn words(&self) -> &[u8] {
+        let text = part(&self.text[..], 0, self.used);
+        part(text, 0, numbered(text))
+    }
+}
+
+impl Write for Reason {
+    fn write_str(&mut self, s: &str) -> std::fmt::Result {
+        for b in s.as_bytes() {
+            self.byte(*b);
+        }
+        Ok(())
+    }
+}
+
+// The length up to the blank before the last bracket; of a text without one, all of it.
+fn numbered(text: &[u8]) -> usize {
+    let mut n = text.len();
+    while 0 < n {
+        n -= 1;
+        if text[n] == b'(' {
+            return trimmed(part(text, 0, n));
+        }
+    }
+    text.len()
 }
