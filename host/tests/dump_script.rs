@@ -152,7 +152,7 @@ fn without_the_kit(folder: &Folder) -> Said {
         symlink(found(tool), tools.join(tool)).expect("a link");
     }
     let mut command = start(&script, &["--version".into()]);
-    command.env("PATH", &tools).env_remove("RATTLE_HOME");
+    command.env("PATH", &tools);
     Said::by(command.spawn().expect("a run"))
 }
 
@@ -170,15 +170,15 @@ fn where_the_kit_is_missing_that_is_said() {
 #[test]
 fn a_program_that_is_built_is_run_where_its_processor_is_there() {
     let folder = Folder::new();
-    let bin = folder.0.join("target/bin");
+    let bin = folder.0.join("crates/dump/out");
     fs::create_dir_all(&bin).expect("a folder");
-    let program = Path::new(DUMP).with_file_name("target/bin/dump");
+    let program = Path::new(DUMP).with_file_name("crates/dump/out/dump");
     fs::copy(program, bin.join("dump")).expect("a copy of the program");
     let said = without_the_kit(&folder);
     if said.status == 0 {
         assert!(said.out.starts_with("dump 4.0.0\n"), "{}", said.out);
     } else {
-        // On another processor the kit has the emulator.
+        // On another processor it takes an emulator, and the kit's loader.
         let line = said.err.strip_suffix('\n').expect("a line");
         assert!(line.starts_with("dump: ") && !line.contains('\n'), "{line}");
         assert!(line.contains("emulator") && line.contains("kit"), "{line}");

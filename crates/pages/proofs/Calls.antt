@@ -50,7 +50,7 @@ module _ (s : List ℕ) (w : PageWalk) {r : Number} (e : r ≡ start_at s w.segm
   unfolding chain then_number
   chain_at {start} f i j = rw (sym e ∙ f, j, i, more_is start, div-one start)
 
-pub ruleset Chain-laws = (chain_fits, chain_out, chain_at)
+pub ruleset chain_laws = (chain_fits, chain_out, chain_at)
 
 -- ---- a page by its start
 

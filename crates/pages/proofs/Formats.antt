@@ -1,5 +1,5 @@
 -- Formats and pointers by the tests of their readers: for `search`. Assumes nothing.
-use Rattle.std.proofs.Common.{◌≡◌, ℕ, ◌-◌, ◌*◌, ◌/◌, ◌%◌, Bool, true, false, eqb, List, sym, ◌∙◌, div-one, eq-eqb, ne_eqb, eqb-true}
+use Rattle.std.proofs.Common.{◌≡◌, ℕ, ◌*◌, ◌/◌, ◌%◌, Bool, true, false, eqb, List, sym, ◌∙◌, div-one, eq-eqb, ne_eqb, eqb-true}
 use lib.Bits.{bit_or}
 use Rattle.numbers.specs.LittleEndian.{field_at}
 use Rattle.numbers.specs.declared.Number.{Number}

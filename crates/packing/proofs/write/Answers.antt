@@ -1,6 +1,6 @@
 -- `packing::write` writes all words, or none. Assumes nothing.
 use Rattle.std.proofs.Common.{arith, refl}
-use Rattle.packing.proofs.Words.{writes_inside, writes_on, writes_all, writes_nothing}
+use Rattle.packing.proofs.Words.{writes_on, writes_all, writes_nothing}
 use Rattle.packing.specs.Words.{bytes_of}
 use Rattle.packing.proofs.write.Goals as goal
 

@@ -1,5 +1,5 @@
 -- `pages::PageWalk::chain` meets its contract. Assumes nothing.
-use Rattle.pages.proofs.Calls.{Chain-laws}
+use Rattle.pages.proofs.Calls.{chain_laws}
 use Rattle.std.proofs.Common.{rules}
 use Rattle.pages.proofs.PageWalk.chain.Statement.{statement}
 use Rattle.pages.proofs.PageWalk.chain.Tie as tie
@@ -11,9 +11,9 @@ chain_spec =
     (λ c κs. search rules)
     (λ c. search rules)
     (λ c. search rules)
-    (λ c. search (Chain-laws, rules))
-    (λ c. search (Chain-laws, rules))
+    (λ c. search (chain_laws, rules))
+    (λ c. search (chain_laws, rules))
     (λ c κs. search rules)
     (λ c. search rules)
     (λ c κs. search rules)
-    (λ c. search (Chain-laws, rules)))
+    (λ c. search (chain_laws, rules)))

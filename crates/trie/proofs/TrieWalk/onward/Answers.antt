@@ -1,5 +1,5 @@
 -- `trie::TrieWalk::onward` visits as its definition does: at each way that a turn goes the law for it. Assumes nothing.
-use Rattle.std.proofs.Common.{arith, ◌∙◌}
+use Rattle.std.proofs.Common.{arith}
 use Rattle.trie.proofs.Visits.{child_left, ends, pauses, refuses, name_fits, full, exports, goes_on}
 use Rattle.trie.proofs.TrieWalk.onward.Goals as goal
 
