@@ -44,6 +44,7 @@ sub read_program {
             $name = $1 =~ tr/"//dr;
             !exists $blocks{$name} or refuse("two functions of one name: $name");
             $labels{$name} = [];
+            undef $block;
         } elsif (/^\}/) {
             undef $name;
         } elsif (defined $name && /^("[^"]+"|[\w.\$-]+):/) {
@@ -54,6 +55,7 @@ sub read_program {
             push @{ $block->{to} }, targets($_);
             $switch = !/^  \]/;
         } elsif (defined $name && /^  (?:%[\w.]+ = )?(?:(?:tail|musttail|notail) )?(\w+)/) {
+            defined $block or refuse("an instruction in no block: $name");
             instruction($block, $1, $_);
             $switch = $1 eq 'switch' && !/\]\s*$/;
         } elsif (defined $name && /\S/) {

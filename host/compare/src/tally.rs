@@ -1,11 +1,19 @@
 //! How often each refusal came.
 
 use crate::case::Case;
+use brinetrellis::Refusal;
 use oracle::{Answers, Stream, ITEM};
 
-/// For each refusal number how often it was answered.
+/// For each refusal number, which is below 32, how often it was answered.
 #[derive(Debug, Default, Clone, PartialEq, Eq)]
-pub struct Tally([u64; 22]);
+pub struct Tally([u64; 32]);
+
+/// The numbers that a case can be refused with: 19 needs a state.
+fn given() -> impl Iterator<Item = usize> {
+    let all = Refusal::ALL.iter().map(|refusal| refusal.number());
+    all.filter(|number| *number != 19)
+        .map(|number| number as usize)
+}
 
 impl Tally {
     fn count(&mut self, number: u64) {
@@ -56,16 +64,13 @@ impl Tally {
         }
     }
 
-    /// The first refusal that a walk or a preflight can give and that never came; 19 needs a state.
+    /// The first refusal that a case can be refused with and that never came.
     pub fn absent(&self) -> Option<usize> {
-        (1..self.0.len()).find(|number| *number != 19 && self.0[*number] == 0)
+        given().find(|number| self.0[*number] == 0)
     }
 
     pub fn text(&self) -> String {
-        let given = (1..self.0.len()).filter(|number| *number != 19);
-        given
-            .map(|number| format!("{number}: {}", self.0[number]))
-            .collect::<Vec<_>>()
-            .join(", ")
+        let texts = given().map(|number| format!("{number}: {}", self.0[number]));
+        texts.collect::<Vec<_>>().join(", ")
     }
 }
