@@ -25,7 +25,10 @@ my %parser = map { $_ => 1 } qw(
 my (%blocks, %labels);    # by a function's name: its blocks, by their labels, and the labels in the order of the text
 my $crates;
 
-sub refuse { print "refused: @_\n"; exit 1 }
+# An instance of a generic function is named after it, with `::<..>` behind. What is refused is said of the function.
+sub plain { return $_[0] =~ s/::<[^\s,]*//gr }
+
+sub refuse { print plain("refused: @_"), "\n"; exit 1 }
 
 # ---- the program
 
@@ -148,7 +151,7 @@ sub reads {
 # Whether a function is given slices of u64 and nothing else, as the sizes are: so it is written in its file.
 sub given_sizes {
     my ($name) = @_;
-    my ($crate, @path) = split /::/, $name;
+    my ($crate, @path) = split /::/, plain($name);
     my $function = pop @path;
     my $file = join '/', $crate, 'src', @path ? @path : 'lib';
     open my $code, '<', "$crates/$file.rt" or return 0;
@@ -239,15 +242,15 @@ sub turns_read {
     refuse("a turn without a reading in $name") if grep { $_ eq $head } behind($blocks{$name}, $head, %reading);
 }
 
-# In the proof of a function that has the loop. The kit proves that the measure falls with each turn.
+# In what the author chose for the proof of a function that has the loop. The kit takes it by its name, where there is no proof by hand, and
+# proves that it falls with each turn.
 sub measured {
     my ($name) = @_;
-    my ($file) = $name =~ s{^preflight::}{}r =~ s{::}{/}gr;
-    open my $proof, '<', "$crates/preflight/proofs/$file/Proof.antt" or refuse("no proof of $name");
-    my $text = do { local $/; <$proof> };
-    my $is = 'decreases-loop-next s size sizes flight₀ flight = length s - flight.at';
-    my $taken = "(tie.spec\n    invariant-loop-next\n    decreases-loop-next\n";
-    index($text, "\n$is\n") >= 0 && index($text, $taken) >= 0 or refuse("turns that the bytes left do not count in $name");
+    my $folder = "$crates/preflight/proofs/" . (plain($name) =~ s{^preflight::}{}r =~ s{::}{/}gr);
+    open my $chosen, '<', "$folder/Invariants.antt" or refuse("no measure of $name");
+    my $text = do { local $/; <$chosen> };
+    my $is = "abbrev pub decreases-loop-next : goal.decreases-loop-next\ndecreases-loop-next g l = length l.s - l.flight.at";
+    index($text, "\n$is\n") >= 0 && !-e "$folder/Proof.antt" or refuse("turns that the bytes left do not count in $name");
 }
 
 # ---- all of it

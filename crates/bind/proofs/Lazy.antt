@@ -11,8 +11,10 @@ use Rattle.cursor.specs.declared.Motion.{Motion}
 use Rattle.cursor.specs.declared.Motion.TheVariants.{Stays, Adds, Seeks, Restarts, Repeats, Ends, Refuses}
 use Rattle.listing.proofs.Held.{held}
 use Rattle.listing.proofs.Resumed.{Why, no_bytes, behind_done, resumed}
-use Rattle.listing.specs.Call.{State, call}
-use Rattle.listing.specs.Machine.{Effect, ◌and◌}
+use Rattle.listing.specs.Call.{call}
+use Rattle.listing.specs.declared.Walk.{Walk}
+use Rattle.listing.specs.Machine.{◌and◌}
+use Rattle.listing.specs.declared.Effect.{Effect}
 use Rattle.operations.specs.declared.bind_operation.BindOperation.{BindOperation}
 use Rattle.operations.specs.declared.bind_operation.BindOperation.TheVariants.{
   Done,
@@ -57,7 +59,7 @@ as_lazy : (size : ℕ) (op : BindOperation) (g : Registers) → AsLazy g (effect
 as_lazy size Done g = lazy_done g g.lazy refl
 as_lazy size (SetDylibOrdinal ordinal) g = lazy_ordinal g ordinal (leb ordinal 2147483647)
 as_lazy size (SetDylibSpecial ordinal) g = goes_on g _ Stays refl (λ q. clash cc)
-as_lazy size (SetSymbol flags place len) g = goes_on g _ Stays refl (λ q. clash cc)
+as_lazy size (SetSymbol flags name) g = goes_on g _ Stays refl (λ q. clash cc)
 as_lazy size (SetType kind) g = goes_on g _ Stays refl (λ q. clash cc)
 as_lazy size (SetAddend addend) g = goes_on g _ Stays refl (λ q. clash cc)
 as_lazy size (SetSegmentAndOffset index offset) g = goes_on g _ (Seeks offset) refl (λ q. clash cc)
@@ -67,8 +69,8 @@ as_lazy size (DoBindAddAddr offset) g = goes_on g g (Repeats 1 offset) refl (λ 
 as_lazy size (DoBindAddAddrScaled count) g = goes_on g g (Repeats 1 (count * size)) refl (λ q. clash cc)
 as_lazy size (DoBindTimesSkipping count skip) g = goes_on g g (Repeats count skip) refl (λ q. clash cc)
 
-module _ (s : List ℕ) (w : State Registers) (e : w.cursor.ended ≡ false) (c : w.cursor.offset < 2 ^ 64) (l : w.registers.lazy ≡ true) where
-  pub lazy_end : {v : State Registers} → call binds s w ≡ end v → v.cursor.at ≡ length s
+module _ (s : List ℕ) (w : Walk Registers) (e : w.cursor.ended ≡ false) (c : w.cursor.offset < 2 ^ 64) (l : w.registers.lazy ≡ true) where
+  pub lazy_end : {v : Walk Registers} → call binds s w ≡ end v → v.cursor.at ≡ length s
   lazy_end {v} q = by_why (resumed binds s w e c q).why
     where
       still : v.registers.lazy ≡ true

@@ -1,5 +1,3 @@
-pub mod Effects
-pub mod Unique
 pub mod Names
 pub mod Lazy
 pub mod Walks

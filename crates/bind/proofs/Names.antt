@@ -9,7 +9,8 @@ use lib.IntN.{pos}
 use lib.ListN.{length}
 use Rattle.cursor.specs.declared.Motion.TheVariants.{Stays, Restarts, Ends, Refuses}
 use Rattle.listing.proofs.Held.{held}
-use Rattle.listing.specs.Call.{State, call}
+use Rattle.listing.specs.Call.{call}
+use Rattle.listing.specs.declared.Walk.{Walk}
 use Rattle.listing.specs.Machine.{◌and◌}
 use Rattle.numbers.proofs.Laws.{part_length}
 use Rattle.numbers.specs.Parts.{part_of}
@@ -40,7 +41,7 @@ use Rattle.bind.specs.declared.Registers.{Registers}
 module _ (s : List ℕ) where
   -- the name that is kept lies in the stream, and its NUL with it; or none is kept: place and length are 0
   abbrev pub Named : Registers → Type 0
-  Named g = g.place + g.length < length s
+  Named g = g.name.place + g.name.length < length s
 
   named_done : (g : Registers) → Named g → (t : Bool) → Named (cond t (lazily and Restarts) (g and Ends)).registers
   named_done g h true = omega arith
@@ -55,7 +56,7 @@ module _ (s : List ℕ) where
   named_effect size Done g n h = named_done g h g.lazy
   named_effect size (SetDylibOrdinal ordinal) g n h = named_ordinal g ordinal h (leb ordinal 2147483647)
   named_effect size (SetDylibSpecial ordinal) g n h = h
-  named_effect size (SetSymbol flags place len) g n h = n.1
+  named_effect size (SetSymbol flags name) g n h = n.1
   named_effect size (SetType kind) g n h = h
   named_effect size (SetAddend addend) g n h = h
   named_effect size (SetSegmentAndOffset index offset) g n h = h
@@ -69,17 +70,17 @@ module _ (s : List ℕ) where
   keeps_named size at next op g e = named_effect size op g (bind_typed s at e)
 
   -- the name of a bind, where the state that was called has a name in the stream; and the next state has one too
-  pub record NamedBind (x : Bind) (v : State Registers) : Type 0 where
-    pub whole : length (part_of s x.place x.length) ≡ x.length
+  pub record NamedBind (x : Bind) (v : Walk Registers) : Type 0 where
+    pub whole : length (part_of s x.name.place x.name.length) ≡ x.name.length
     pub goes_on : Named v.registers
 
-  pub named_bind : (w : State Registers) → Named w.registers → {x : Bind} {v : State Registers} → call binds s w ≡ item x v → NamedBind x v
+  pub named_bind : (w : Walk Registers) → Named w.registers → {x : Bind} {v : Walk Registers} → call binds s w ≡ item x v → NamedBind x v
   named_bind w h {x} {v} e =
       let y = held binds s Named keeps_named w h e in
       record {
         whole =
-            ap (λ (z : Bind). length (part_of s z.place z.length)) y.is
-            ∙ part_length s v.registers.place v.registers.length (let l = y.holds in omega arith)
-            ∙ ap (λ (z : Bind). z.length) (sym y.is);
+            ap (λ (z : Bind). length (part_of s z.name.place z.name.length)) y.is
+            ∙ part_length s v.registers.name.place v.registers.name.length (let l = y.holds in omega arith)
+            ∙ ap (λ (z : Bind). z.name.length) (sym y.is);
         goes_on = y.holds;
       }

@@ -14,7 +14,8 @@ use Rattle.cursor.proofs.Typed.{Counted}
 use Rattle.cursor.specs.declared.Motion.TheVariants.{Stays, Restarts, Ends, Refuses}
 use Rattle.listing.proofs.Answers.{KeepsRegisters}
 use Rattle.listing.proofs.Typed as typed
-use Rattle.listing.specs.Call.{State, call}
+use Rattle.listing.specs.Call.{call}
+use Rattle.listing.specs.declared.Walk.{Walk}
 use Rattle.listing.specs.Machine.{◌and◌}
 use Rattle.operations.proofs.Typed.{BindTyped, bind_typed}
 use Rattle.operations.specs.declared.bind_operation.BindOperation.{BindOperation}
@@ -41,8 +42,8 @@ use Rattle.bind.specs.declared.Bind.{Bind}
 use Rattle.bind.specs.declared.Registers.{Registers}
 
 pub record TypedRegisters (g : Registers) : Type 0 where
-  pub place : g.place < 2 ^ 64
-  pub length : g.length < 2 ^ 64
+  pub place : g.name.place < 2 ^ 64
+  pub length : g.name.length < 2 ^ 64
   pub addend : SFits w64 g.addend
   pub library : SFits w32 g.library
   pub segment : g.segment < 2 ^ 8
@@ -94,7 +95,7 @@ module _ (s : List ℕ) (short : length s < 2 ^ 64) (size : ℕ) (g : Registers)
   stays Done b t = after_done t g.lazy
   stays (SetDylibOrdinal ordinal) b t = with_ordinal g t ordinal (leb ordinal 2147483647) refl
   stays (SetDylibSpecial ordinal) b t = with_library_lem g t ordinal b
-  stays (SetSymbol flags place len) b t =
+  stays (SetSymbol flags name) b t =
       record { segment = t.segment; kind = t.kind; library = t.library; place = omega (arith, short, b.1); length = omega (arith, short, b.1); flags = omega (arith, b.0); addend = t.addend }
   stays (SetType kind) b t = with_type_lem g t kind b
   stays (SetAddend addend) b t =
@@ -119,7 +120,7 @@ module _ (s : List ℕ) (short : length s < 2 ^ 64) (size : ℕ) (g : Registers)
   counted Done b = counted_done g.lazy
   counted (SetDylibOrdinal ordinal) b = counted_ordinal ordinal (leb ordinal 2147483647)
   counted (SetDylibSpecial ordinal) b = tt
-  counted (SetSymbol flags place len) b = tt
+  counted (SetSymbol flags name) b = tt
   counted (SetType kind) b = tt
   counted (SetAddend addend) b = tt
   counted (SetSegmentAndOffset index offset) b = tt
@@ -131,8 +132,8 @@ module _ (s : List ℕ) (short : length s < 2 ^ 64) (size : ℕ) (g : Registers)
 
 pub record TypedBind (x : Bind) : Type 0 where
   pub offset : x.offset < 2 ^ 64
-  pub place : x.place < 2 ^ 64
-  pub length : x.length < 2 ^ 64
+  pub place : x.name.place < 2 ^ 64
+  pub length : x.name.length < 2 ^ 64
   pub addend : SFits w64 x.addend
   pub library : SFits w32 x.library
   pub segment : x.segment < 2 ^ 8
@@ -140,7 +141,7 @@ pub record TypedBind (x : Bind) : Type 0 where
   pub flags : x.flags < 2 ^ 8
 
 -- every call on a state whose fields are such as their types have hands such a state back, and such items
-module _ (s : List ℕ) (short : length s < 2 ^ 64) (w : State Registers) (t : typed.Typed TypedRegisters w) where
+module _ (s : List ℕ) (short : length s < 2 ^ 64) (w : Walk Registers) (t : typed.Typed TypedRegisters w) where
   abbrev keeps : KeepsRegisters binds s TypedRegisters
   keeps size at next op g e b = stays s short size g op (bind_typed s at e) b
 
@@ -150,7 +151,7 @@ module _ (s : List ℕ) (short : length s < 2 ^ 64) (w : State Registers) (t : t
   pub typed_call : Hands (typed.Typed TypedRegisters) IsNumber (call binds s w)
   typed_call = typed.typed_call binds s short TypedRegisters keeps counts w t
 
-  pub typed_item : {x : Bind} {v : State Registers} → call binds s w ≡ item x v → TypedBind x
+  pub typed_item : {x : Bind} {v : Walk Registers} → call binds s w ≡ item x v → TypedBind x
   typed_item e =
       let m = typed.typed_item binds s short TypedRegisters keeps counts w t e in
       let g = m.typed in

@@ -1,9 +1,9 @@
 -- Bind streams: how a walk begins, what each operation does, what a place lacks and what it gives.
-use Rattle.std.specs.Prelude.{ℕ, ◌*◌, Bool, true, false, cond, leb, ℤ, pos, neg_ℤ}
-use Rattle.cursor.specs.declared.Lack.{Lack}
-use Rattle.cursor.specs.declared.Lack.TheVariants.{Nothing, Lacks}
+use Rattle.std.specs.Prelude.{ℕ, ◌*◌, Bool, true, false, cond, leb, ℤ, pos, neg_ℤ, Option, None, Some}
 use Rattle.cursor.specs.declared.Motion.TheVariants.{Stays, Adds, Seeks, Restarts, Repeats, Ends, Refuses}
-use Rattle.listing.specs.Machine.{Effect, ◌and◌, Place, Machine}
+use Rattle.listing.specs.Machine.{◌and◌, Place, Machine}
+use Rattle.listing.specs.declared.Effect.{Effect}
+use Rattle.numbers.specs.declared.parts.Part.{Part}
 use Rattle.operations.specs.Loader.{bind_table}
 use Rattle.operations.specs.declared.bind_operation.BindOperation.{BindOperation}
 use Rattle.operations.specs.declared.bind_operation.BindOperation.TheVariants.{
@@ -23,14 +23,14 @@ use Rattle.operations.specs.declared.bind_operation.BindOperation.TheVariants.{
 use Rattle.bind.specs.declared.Bind.{Bind}
 use Rattle.bind.specs.declared.Registers.{Registers}
 use Rattle.refusal.specs.declared.Refusal.TheVariants.{OrdinalTooLarge, NoSegment, NoType, NoLibrary, NoSymbol}
+use Rattle.refusal.specs.declared.Refusal.{Refusal}
 
 -- ---- the registers
 
 abbrev pub unset : (lazy : Bool) → Registers
 unset lazy =
     record {
-      place = 0;
-      length = 0;
+      name = record { place = 0; length = 0 };
       addend = pos 0;
       library = pos 0;
       segment = 0;
@@ -44,89 +44,19 @@ unset lazy =
     }
 
 abbrev pub with_library : ℤ → Registers → Registers
-with_library library g =
-    record {
-      place = g.place;
-      length = g.length;
-      addend = g.addend;
-      library = library;
-      segment = g.segment;
-      kind = g.kind;
-      flags = g.flags;
-      lazy = g.lazy;
-      segmented = g.segmented;
-      typed = g.typed;
-      sourced = true;
-      named = g.named;
-    }
+with_library library g = record g { library = library; sourced = true }
 
-abbrev pub with_symbol : (flags place length : ℕ) → Registers → Registers
-with_symbol flags place length g =
-    record {
-      place = place;
-      length = length;
-      addend = g.addend;
-      library = g.library;
-      segment = g.segment;
-      kind = g.kind;
-      flags = flags;
-      lazy = g.lazy;
-      segmented = g.segmented;
-      typed = g.typed;
-      sourced = g.sourced;
-      named = true;
-    }
+abbrev pub with_symbol : (flags : ℕ) → (name : Part) → Registers → Registers
+with_symbol flags name g = record g { name = name; flags = flags; named = true }
 
 abbrev pub with_type : ℕ → Registers → Registers
-with_type kind g =
-    record {
-      place = g.place;
-      length = g.length;
-      addend = g.addend;
-      library = g.library;
-      segment = g.segment;
-      kind = kind;
-      flags = g.flags;
-      lazy = g.lazy;
-      segmented = g.segmented;
-      typed = true;
-      sourced = g.sourced;
-      named = g.named;
-    }
+with_type kind g = record g { kind = kind; typed = true }
 
 abbrev pub with_addend : ℤ → Registers → Registers
-with_addend addend g =
-    record {
-      place = g.place;
-      length = g.length;
-      addend = addend;
-      library = g.library;
-      segment = g.segment;
-      kind = g.kind;
-      flags = g.flags;
-      lazy = g.lazy;
-      segmented = g.segmented;
-      typed = g.typed;
-      sourced = g.sourced;
-      named = g.named;
-    }
+with_addend addend g = record g { addend = addend }
 
 abbrev pub with_segment : ℕ → Registers → Registers
-with_segment index g =
-    record {
-      place = g.place;
-      length = g.length;
-      addend = g.addend;
-      library = g.library;
-      segment = index;
-      kind = g.kind;
-      flags = g.flags;
-      lazy = g.lazy;
-      segmented = true;
-      typed = g.typed;
-      sourced = g.sourced;
-      named = g.named;
-    }
+with_segment index g = record g { segment = index; segmented = true }
 
 -- ---- how a walk begins: plain with nothing set, weak with type 1 and library -3, lazy with type 1
 
@@ -152,7 +82,7 @@ abbrev pub effect_of : (size : ℕ) → BindOperation → Registers → Effect R
 effect_of size Done g = done_effect g
 effect_of size (SetDylibOrdinal ordinal) g = ordinal_effect ordinal g
 effect_of size (SetDylibSpecial ordinal) g = with_library ordinal g and Stays
-effect_of size (SetSymbol flags place length) g = with_symbol flags place length g and Stays
+effect_of size (SetSymbol flags name) g = with_symbol flags name g and Stays
 effect_of size (SetType kind) g = with_type kind g and Stays
 effect_of size (SetAddend addend) g = with_addend addend g and Stays
 effect_of size (SetSegmentAndOffset index offset) g = with_segment index g and Seeks offset
@@ -164,22 +94,21 @@ effect_of size (DoBindTimesSkipping count skip) g = g and Repeats count skip
 
 -- ---- a place that is due
 
-abbrev pub lack_of : Registers → Lack
+abbrev pub lack_of : Registers → Option Refusal
 lack_of g =
     cond g.segmented
     (cond g.typed
     (cond g.sourced
-    (cond g.named Nothing (Lacks NoSymbol))
-    (Lacks NoLibrary))
-    (Lacks NoType))
-    (Lacks NoSegment)
+    (cond g.named None (Some NoSymbol))
+    (Some NoLibrary))
+    (Some NoType))
+    (Some NoSegment)
 
 abbrev pub item_of : Registers → (offset : ℕ) → Bind
 item_of g offset =
     record {
       offset = offset;
-      place = g.place;
-      length = g.length;
+      name = g.name;
       addend = g.addend;
       library = g.library;
       segment = g.segment;
@@ -190,12 +119,9 @@ item_of g offset =
 abbrev pub place_of : Bind → Place
 place_of x = record { segment = x.segment; offset = x.offset; kind = x.kind }
 
-abbrev pub binds : Machine
+abbrev pub binds : Machine BindOperation Registers Bind
 binds =
     record {
-      Op = BindOperation;
-      Reg = Registers;
-      Item = Bind;
       table = bind_table;
       effect = effect_of;
       lack = lack_of;

@@ -1,24 +1,7 @@
--- What follows a header, by what a call answered: for `search`. Assumes nothing.
-use Prim.Native.Nat.{ℕ}
-use mathlib.Core.Path.{◌≡◌, refl, ap, sym, ◌∙◌}
+-- What holds of what follows a header, by cases. Assumes nothing.
+use Rattle.std.proofs.Common.{◌≡◌, ℕ, refl}
 use Rattle.chains.specs.FixupChains.{HeaderAt, header, no_header, then_header}
-use Rattle.chains.specs.Told.{header_told}
 use Rattle.chains.specs.declared.header.Header.{Header}
-use Rattle.chains.specs.declared.header.HeaderRead.{HeaderRead}
-use Rattle.chains.specs.declared.header.HeaderRead.TheVariants.{Read, Refused}
-use Rattle.refusal.specs.Numbers.{number_of}
-use Rattle.refusal.specs.declared.Refusal.{Refusal}
-
-module _ {A : Type 0} (x : HeaderAt) (refused : ℕ → A) (go : Header → A) {r : HeaderRead} (e : header_told r ≡ x) where
-  pub header_read : {h : Header} {y : A} → r ≡ Read h → y ≡ go h → y ≡ then_header x refused go
-  unfolding then_header
-  header_read {h} f q = rw (sym e ∙ ap header_told f) q
-
-  pub header_refused : {d : Refusal} {y : A} → r ≡ Refused d → y ≡ refused (number_of d) → y ≡ then_header x refused go
-  unfolding then_header
-  header_refused {d} f q = rw (sym e ∙ ap header_told f) q
-
-pub ruleset headers = (header_read, header_refused)
 
 -- what holds of what follows either
 pub by_header : {A : Type 0} (x : HeaderAt) (refused : ℕ → A) (go : Header → A) (P : A → Type 0) → ((n : ℕ) → P (refused n)) → ((h : Header) → x ≡ header h → P (go h)) →

@@ -11,8 +11,7 @@ use Rattle.chains.specs.Call.{at_index, recorded, seek, call}
 use Rattle.chains.specs.FixupChains.{offset_at, record_size, starts_in, record_of, record_at}
 use Rattle.chains.specs.declared.Segment.{Segment}
 use Rattle.chains.specs.declared.SegmentWalk.{SegmentWalk}
-use Rattle.chains.specs.declared.record.SegmentRead.{SegmentRead}
-use Rattle.chains.specs.declared.record.SegmentRead.TheVariants.{Found, Fault}
+use Rattle.std.specs.Prelude.{Option, Some, None}
 use Rattle.numbers.proofs.Picks.{by_pick, by_test}
 use Rattle.numbers.specs.LittleEndian.{little_endian}
 use Rattle.refusal.specs.Numbers.{number_of}
@@ -24,12 +23,12 @@ use Rattle.runs.specs.Runs.{Answer, item, end, refused}
 
 module _ (s : List ℕ) (w : SegmentWalk) (Q : Answer SegmentWalk Segment → Type 0) (out : Q (refused (number_of StateOutOfRange) w))
     (ends : (i : ℕ) → i ≤ w.index + (w.count - w.index) → Q (end (at_index i w)))
-    (gives : (i : ℕ) → i < w.count → (g : Segment) → record_at s i (w.place + offset_at s w.place i) ≡ Found g → Q (item g (at_index (i + 1) w)))
+    (gives : (i : ℕ) → i < w.count → (g : Segment) → record_at s i (w.place + offset_at s w.place i) ≡ Some g → Q (item g (at_index (i + 1) w)))
     (refuses : (i : ℕ) → i < w.count → Q (refused (number_of FaultyChains) (at_index (i + 1) w))) where
-  by_record : (i : ℕ) → i < w.count → (x : SegmentRead) → record_at s i (w.place + offset_at s w.place i) ≡ x → Q (recorded (at_index (i + 1) w) x)
+  by_record : (i : ℕ) → i < w.count → (x : Option Segment) → record_at s i (w.place + offset_at s w.place i) ≡ x → Q (recorded (at_index (i + 1) w) x)
   unfolding recorded
-  by_record i l (Found g) e = gives i l g e
-  by_record i l Fault e = refuses i l
+  by_record i l (Some g) e = gives i l g e
+  by_record i l None e = refuses i l
 
   by_seek : (n i : ℕ) → w.count - i ≡ n → i + n ≤ w.index + (w.count - w.index) → Q (seek s w n i)
   unfolding seek
@@ -44,9 +43,9 @@ module _ (s : List ℕ) (w : SegmentWalk) (Q : Answer SegmentWalk Segment → Ty
 
 -- ---- what holds of every record that is found, holds of every segment that is yielded
 
-abbrev pub IfFound : (Segment → Type 0) → SegmentRead → Type 0
-IfFound P (Found g) = P g
-IfFound P Fault = Unit {0}
+abbrev pub IfFound : (Segment → Type 0) → Option Segment → Type 0
+IfFound P (Some g) = P g
+IfFound P None = Unit {0}
 
 module _ (s : List ℕ) (P : Segment → Type 0) where
   -- its starts lie in the bytes

@@ -15,11 +15,10 @@ use Rattle.chains.specs.Hear.{as_entry, hear}
 use Rattle.chains.specs.Listing.{Entry, entry, segments, listing}
 use Rattle.chains.specs.declared.Segment.{Segment}
 use Rattle.chains.specs.declared.SegmentWalk.{SegmentWalk}
-use Rattle.chains.specs.declared.record.SegmentRead.{SegmentRead}
-use Rattle.chains.specs.declared.record.SegmentRead.TheVariants.{Found, Fault}
+use Rattle.std.specs.Prelude.{Option, Some, None}
 use Rattle.numbers.proofs.Picks.{both_picks}
 use Rattle.numbers.proofs.Rows.{field_ends}
-use Rattle.numbers.proofs.Then.{both_numbers}
+use Rattle.numbers.proofs.Then.{both_reads}
 use Rattle.numbers.specs.LittleEndian.{field_at}
 use Rattle.runs.proofs.Walks.{shown, Stays, Starts, walks_ahead, walks_one}
 use Rattle.runs.specs.Runs.{Begin, begun, not_begun, Answer, Run, fails, gives, Walks}
@@ -33,10 +32,10 @@ module _ (s : List ℕ) where
   ahead w = segments s w.place (w.count - w.index) w.index
 
   module _ (w : SegmentWalk) where
-    says_record : (n i : ℕ) → n ≡ w.count - (i + 1) → (x : SegmentRead) → gives (entry x) (segments s w.place n (i + 1)) ≡ shown ahead (as_entry (recorded (at_index (i + 1) w) x))
+    says_record : (n i : ℕ) → n ≡ w.count - (i + 1) → (x : Option Segment) → gives (entry x) (segments s w.place n (i + 1)) ≡ shown ahead (as_entry (recorded (at_index (i + 1) w) x))
     unfolding recorded
-    says_record n i e (Found x) = ap (λ (m : ℕ). gives (entry (Found x)) (segments s w.place m (i + 1))) e
-    says_record n i e Fault = ap (λ (m : ℕ). gives (entry Fault) (segments s w.place m (i + 1))) e
+    says_record n i e (Some x) = ap (λ (m : ℕ). gives (entry (Some x)) (segments s w.place m (i + 1))) e
+    says_record n i e None = ap (λ (m : ℕ). gives (entry None) (segments s w.place m (i + 1))) e
 
     says_seek : (n i : ℕ) → w.count - i ≡ n → segments s w.place n i ≡ shown ahead (as_entry (seek s w n i))
     unfolding segments seek
@@ -74,7 +73,7 @@ module _ (s : List ℕ) where
   starts =
       both_headers Lists (header_at s) _ _ _ _ (λ n. refl)
       (λ h.
-      both_numbers Lists (field_at 4 s h.starts_offset) _ _ _ _ refl
+      both_reads Lists (field_at 4 s h.starts_offset) _ _ _ _ refl
       (λ count at e.
       both_picks Lists (ltb (length s) (at + 4 * count)) _ _ _ _ (λ f. refl)
       (λ f.

@@ -1,6 +1,5 @@
 pub mod Headers
 pub mod Records
-pub mod Starts
 pub mod Seeks
 pub mod Inside
 pub mod Joined

@@ -1,36 +1,34 @@
--- The loop over segments: for `search`. Assumes nothing.
-use Prim.Native.Nat.{ℕ, suc, ◌+◌, ◌-◌, ◌*◌, ◌≤◌, ◌<◌}
-use mathlib.Core.Path.{◌≡◌, sym, ap, ◌∙◌}
-use mathlib.Core.Bool.{Bool, true, false}
-use mathlib.Core.List.{List}
-use native.Mathlib.Omega.{arith}
-use borrow.Author.Tests.{ltb-false, eq-eqb, ne_eqb}
-use lib.Dec.{ltb}
-use lib.ListN.{length}
+-- The loop over segments. Assumes nothing.
+use Rattle.std.proofs.Common.{◌≡◌, ℕ, suc, ◌+◌, ◌-◌, ◌*◌, ◌≤◌, ◌<◌, min, max, List, length, sym, ap, ◌∙◌, arith, lt-ltb, le-leb, eq-eqb, ne_eqb}
+use native.Mathlib.Decide.{dec_le}
+use native.Mathlib.Nat.{min-eq_left}
+use Rattle.std.specs.Prelude.{Option, Some, IsSome}
 use Rattle.chains.specs.Call.{at_index, recorded, seek, call}
-use Rattle.chains.specs.FixupChains.{offset_at, record_at}
-use Rattle.chains.specs.declared.Segment.{Segment}
+use Rattle.chains.specs.FixupChains.{offset_at, record_size, record_at}
 use Rattle.chains.specs.declared.SegmentWalk.{SegmentWalk}
-use Rattle.refusal.specs.Numbers.{number_of}
-use Rattle.refusal.specs.declared.Refusal.TheVariants.{StateOutOfRange}
-use Rattle.runs.specs.Runs.{Answer, end, refused}
+use Rattle.numbers.proofs.Rows.{field_value}
+use Rattle.numbers.specs.LittleEndian.{field_at}
+use Rattle.runs.specs.Runs.{end}
 
 -- the segments before an index have no record, and from there on the call is still to be answered
 pub record Seeking (s : List ℕ) (w : SegmentWalk) (index : ℕ) : Type 0 where
   pub inside : w.place + 4 + 4 * w.count ≤ length s
+  pub near : index ≤ max w.index w.count
   pub rest : call s w ≡ seek s w (w.count - index) index
 
+-- a place that a usize has not is beyond the bytes, as is the largest
+pub record_far : (s : List ℕ) (index at : ℕ) → length s ≤ 0xffff_ffff_ffff_ffff → record_at s index (min at 0xffff_ffff_ffff_ffff) ≡ record_at s index at
+unfolding record_at
+record_far s index at l =
+    elim (dec_le at 0xffff_ffff_ffff_ffff) [
+      | yes h ↦ ap (record_at s index) (min-eq_left h)
+      | no h ↦ rw (
+        lt-ltb (length s) (min at 0xffff_ffff_ffff_ffff + record_size) (omega arith),
+        lt-ltb (length s) (at + record_size) (omega arith),
+      )
+    ]
+
 module _ (s : List ℕ) (w : SegmentWalk) where
-  module _ {r : Bool} (e : r ≡ ltb (length s) (w.place + 4 + 4 * w.count)) where
-    pub seek_out : r ≡ true → refused (number_of StateOutOfRange) w ≡ call s w
-    unfolding call
-    seek_out f = rw (sym e ∙ f)
-
-    pub seek_starts : r ≡ false → Seeking s w w.index
-    unfolding call
-    seek_starts f =
-        record { inside = ltb-false (length s) (w.place + 4 + 4 * w.count) (sym e ∙ f); rest = rw (sym e ∙ f) }
-
   module _ {index : ℕ} (l : Seeking s w index) where
     next : index < w.count → w.count - index ≡ suc (w.count - (index + 1))
     next h = omega arith
@@ -38,24 +36,31 @@ module _ (s : List ℕ) (w : SegmentWalk) where
     none_left : w.count ≤ index → w.count - index ≡ 0
     none_left h = omega arith
 
-    module _ (h : index < w.count) {offset : ℕ} (e : offset ≡ offset_at s w.place index) where
-      pub seek_on : offset ≡ 0 → Seeking s w (index + 1)
-      unfolding seek
-      seek_on f =
-          record { inside = l.inside; rest = l.rest ∙ ap (λ (n : ℕ). seek s w n index) (next h) ∙ rw (eq-eqb (offset_at s w.place index) 0 (sym e ∙ f)) }
+    module _ (h : index < w.count) {r : Option (ℕ × ℕ)} (e : r ≡ field_at 4 s (w.place + 4 + 4 * index)) where
+      -- its offset lies in the bytes
+      pub seek_read : IsSome r
+      unfolding field_at
+      seek_read = rw (e, le-leb (w.place + 4 + 4 * index + 4) (length s) (omega (arith, l.inside)))
 
-      pub seek_found : (offset ≡ 0 → ⊥) → {v : SegmentWalk} → v ≡ at_index (index + 1) w → {y : Answer SegmentWalk Segment} →
-          y ≡ recorded v (record_at s index (v.place + offset)) → y ≡ call s w
-      unfolding seek
-      seek_found f {v} g {y} q =
-          q ∙ rw (g, e)
-          (sym (l.rest ∙ ap (λ (n : ℕ). seek s w n index) (next h) ∙ rw (ne_eqb (offset_at s w.place index) 0 (λ k. f (e ∙ k)))))
+      module _ {offset behind : ℕ} (f : r ≡ Some (offset, behind)) where
+        offset_is : offset ≡ offset_at s w.place index
+        offset_is = field_value 4 s (w.place + 4 + 4 * index) e f
 
-    pub seek_end : w.count ≤ index → {v : SegmentWalk} → v ≡ at_index index w → end v ≡ call s w
+        pub seek_on : offset ≡ 0 → Seeking s w (index + 1)
+        unfolding seek
+        seek_on z =
+            record {
+              inside = l.inside;
+              near = omega arith;
+              rest = l.rest ∙ ap (λ (n : ℕ). seek s w n index) (next h) ∙ rw (eq-eqb (offset_at s w.place index) 0 (sym offset_is ∙ z));
+            }
+
+        pub seek_found : (offset ≡ 0 → ⊥) → recorded (at_index (index + 1) w) (record_at s index (w.place + offset)) ≡ call s w
+        unfolding seek
+        seek_found z =
+            ap (λ (o : ℕ). recorded (at_index (index + 1) w) (record_at s index (w.place + o))) offset_is
+            ∙ sym (l.rest ∙ ap (λ (n : ℕ). seek s w n index) (next h) ∙ rw (ne_eqb (offset_at s w.place index) 0 (λ k. z (offset_is ∙ k))))
+
+    pub seek_end : w.count ≤ index → end (at_index index w) ≡ call s w
     unfolding seek
-    seek_end h g = ap end g ∙ sym (l.rest ∙ ap (λ (n : ℕ). seek s w n index) (none_left h))
-
-    pub seek_inside : {i : ℕ} {v : SegmentWalk} → v ≡ at_index i w → v.place ≤ length s
-    seek_inside g = rw g (omega (arith, l.inside))
-
-pub ruleset seeks = (seek_out, seek_starts, seek_on, seek_found, seek_end, seek_inside)
+    seek_end h = sym (l.rest ∙ ap (λ (n : ℕ). seek s w n index) (none_left h))

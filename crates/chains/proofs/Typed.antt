@@ -14,7 +14,7 @@ use Rattle.chains.specs.declared.SegmentWalk.{SegmentWalk}
 use Rattle.chains.specs.declared.header.Header.{Header}
 use Rattle.numbers.proofs.Picks.{by_pick}
 use Rattle.numbers.proofs.Rows.{field_less}
-use Rattle.numbers.proofs.Then.{by_number}
+use Rattle.numbers.proofs.Then.{by_read}
 use Rattle.numbers.proofs.little_endian.Fields.{Bytes, field_below}
 use Rattle.numbers.specs.LittleEndian.{little_endian, field_at}
 use Rattle.refusal.proofs.Numbered.{IsNumber, is_number_lem}
@@ -68,7 +68,7 @@ typed_begin s b e =
     subst (IfBegun Typed) e
     (by_header (header_at s) _ _ (IfBegun Typed) (λ n. tt)
     (λ h i.
-    by_number (field_at 4 s h.starts_offset) _ _ (IfBegun Typed) tt
+    by_read (field_at 4 s h.starts_offset) _ _ (IfBegun Typed) tt
     (λ count at f.
     by_pick (IfBegun Typed) (ltb (length s) (at + 4 * count)) _ _ tt
     (record { place = (typed_header s b i).starts_offset; count = omega (arith, field_less 4 s h.starts_offset refl f b); index = omega arith }))))

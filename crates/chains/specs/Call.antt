@@ -1,10 +1,8 @@
 -- A start and a call of the walk over segments: what they answer, and the state handed back, for any state and any bytes.
-use Rattle.std.specs.Prelude.{ℕ, zero, suc, ◌+◌, ◌-◌, ◌*◌, cond, List, ltb, eqb, length}
+use Rattle.std.specs.Prelude.{ℕ, zero, suc, ◌+◌, ◌-◌, ◌*◌, cond, List, ltb, eqb, length, Option, Some, None}
 use Rattle.chains.specs.FixupChains.{offset_at, then_starts, record_at}
 use Rattle.chains.specs.declared.Segment.{Segment}
 use Rattle.chains.specs.declared.SegmentWalk.{SegmentWalk}
-use Rattle.chains.specs.declared.record.SegmentRead.{SegmentRead}
-use Rattle.chains.specs.declared.record.SegmentRead.TheVariants.{Found, Fault}
 use Rattle.refusal.specs.Numbers.{number_of}
 use Rattle.refusal.specs.declared.Refusal.TheVariants.{FaultyChains, StateOutOfRange}
 use Rattle.runs.specs.Runs.{Begin, begun, not_begun, Answer, item, end, refused}
@@ -23,9 +21,9 @@ abbrev pub at_index : (index : ℕ) → SegmentWalk → SegmentWalk
 at_index index w = record { place = w.place; count = w.count; index = index }
 
 -- the answer for a record; `behind` is the state after its segment
-unfoldable pub recorded : (behind : SegmentWalk) → SegmentRead → Answer SegmentWalk Segment
-recorded behind (Found segment) = item segment behind
-recorded behind Fault = refused (number_of FaultyChains) behind
+unfoldable pub recorded : (behind : SegmentWalk) → Option Segment → Answer SegmentWalk Segment
+recorded behind (Some segment) = item segment behind
+recorded behind None = refused (number_of FaultyChains) behind
 
 -- from an index on, where n segments are left: those that have no record are passed over
 unfoldable pub seek : List ℕ → SegmentWalk → (n index : ℕ) → Answer SegmentWalk Segment

@@ -1,12 +1,10 @@
 -- Chained fixups, as mach-o/fixup-chains.h has them: the header, the starts and the record of a segment, field by field, each with its width
 -- and its place.
-use Rattle.std.specs.Prelude.{ℕ, ◌+◌, ◌-◌, ◌*◌, ◌/◌, ◌%◌, ◌^◌, cond, not, List, ltb, eqb, length}
+use Rattle.std.specs.Prelude.{ℕ, ◌+◌, ◌-◌, ◌*◌, ◌/◌, ◌%◌, ◌^◌, cond, not, List, ltb, eqb, length, Option, Some, None}
 use Rattle.chains.specs.declared.Segment.{Segment}
 use Rattle.chains.specs.declared.header.Header.{Header}
-use Rattle.chains.specs.declared.record.SegmentRead.{SegmentRead}
-use Rattle.chains.specs.declared.record.SegmentRead.TheVariants.{Found, Fault}
 use Rattle.numbers.specs.LittleEndian.{little_endian, field_at}
-use Rattle.numbers.specs.Then.{then_number}
+use Rattle.numbers.specs.Then.{then}
 use Rattle.refusal.specs.Numbers.{number_of}
 use Rattle.refusal.specs.declared.Refusal.TheVariants.{FaultyChains, UnknownVersion}
 
@@ -20,13 +18,10 @@ pub data HeaderAt : Type 0 where
   header : Header → HeaderAt
   no_header : (number : ℕ) → HeaderAt
 
--- seven fields of four bytes; 9 where they do not fit, then 10 where the version is not 0
-unfoldable pub header_at : List ℕ → HeaderAt
-header_at s =
-    cond (ltb (length s) 28) (no_header (number_of FaultyChains))
-    (cond (not (eqb (little_endian 4 s 0) 0)) (no_header (number_of UnknownVersion))
-    (header
-    (record {
+-- seven fields of four bytes
+abbrev pub header_of : List ℕ → Header
+header_of s =
+    record {
       fixups_version = little_endian 4 s 0;
       starts_offset = little_endian 4 s 4;
       imports_offset = little_endian 4 s 8;
@@ -34,7 +29,14 @@ header_at s =
       imports_count = little_endian 4 s 16;
       imports_format = little_endian 4 s 20;
       symbols_format = little_endian 4 s 24;
-    })))
+    }
+
+-- 9 where they do not fit, then 10 where the version is not 0
+unfoldable pub header_at : List ℕ → HeaderAt
+header_at s =
+    cond (ltb (length s) 28) (no_header (number_of FaultyChains))
+    (cond (not (eqb (little_endian 4 s 0) 0)) (no_header (number_of UnknownVersion))
+    (header (header_of s)))
 
 unfoldable pub then_header : {A : Type 0} → HeaderAt → (refused : ℕ → A) → (Header → A) → A
 then_header (header h) refused go = go h
@@ -51,7 +53,7 @@ unfoldable pub then_starts : {A : Type 0} → List ℕ → (refused : ℕ → A)
 then_starts s refused go =
     then_header (header_at s) refused
     (λ h.
-    then_number (field_at 4 s h.starts_offset) (refused (number_of FaultyChains))
+    then (field_at 4 s h.starts_offset) (refused (number_of FaultyChains))
     (λ count at.
     cond (ltb (length s) (at + 4 * count)) (refused (number_of FaultyChains)) (go h.starts_offset count)))
 
@@ -80,9 +82,9 @@ record_of s index at =
 
 -- the record at a place, of the segment of an index. It is faulty where its fields do not lie in the bytes, where its size is below theirs,
 -- or where its starts do not lie in the bytes
-unfoldable pub record_at : List ℕ → (index at : ℕ) → SegmentRead
+unfoldable pub record_at : List ℕ → (index at : ℕ) → Option Segment
 record_at s index at =
-    cond (ltb (length s) (at + record_size)) Fault
-    (cond (ltb (little_endian 4 s at) record_size) Fault
-    (cond (ltb (length s) (at + record_size + 2 * starts_in (little_endian 4 s at))) Fault
-    (Found (record_of s index at))))
+    cond (ltb (length s) (at + record_size)) None
+    (cond (ltb (little_endian 4 s at) record_size) None
+    (cond (ltb (length s) (at + record_size + 2 * starts_in (little_endian 4 s at))) None
+    (Some (record_of s index at))))

@@ -1,9 +1,7 @@
 -- What the starts list: every segment that has fixups, in order. A record that is refused is an entry, and not the end.
-use Rattle.std.specs.Prelude.{ℕ, zero, suc, ◌+◌, cond, List, eqb}
+use Rattle.std.specs.Prelude.{ℕ, zero, suc, ◌+◌, cond, List, eqb, Option, Some, None}
 use Rattle.chains.specs.FixupChains.{offset_at, then_starts, record_at}
 use Rattle.chains.specs.declared.Segment.{Segment}
-use Rattle.chains.specs.declared.record.SegmentRead.{SegmentRead}
-use Rattle.chains.specs.declared.record.SegmentRead.TheVariants.{Found, Fault}
 use Rattle.refusal.specs.Numbers.{number_of}
 use Rattle.refusal.specs.declared.Refusal.TheVariants.{FaultyChains}
 use Rattle.runs.specs.Runs.{Run, stops, fails, gives}
@@ -13,9 +11,9 @@ pub data Entry (X : Type 0) : Type 0 where
   segment : X → Entry X
   refusal : (number : ℕ) → Entry X
 
-abbrev pub entry : SegmentRead → Entry Segment
-entry (Found x) = segment x
-entry Fault = refusal (number_of FaultyChains)
+abbrev pub entry : Option Segment → Entry Segment
+entry (Some x) = segment x
+entry None = refusal (number_of FaultyChains)
 
 -- n segments from an index on, where the starts are at a place
 unfoldable pub segments : List ℕ → (place n index : ℕ) → Run (Entry Segment)

@@ -3,26 +3,24 @@
 
 #![tactic(auto)]
 
-ghost use Rattle.std.specs.Prelude.{◌≡◌, ◌+◌, ◌*◌, ◌≤◌, ltb, length};
+ghost use Rattle.std.specs.Prelude.{◌≡◌, ◌+◌, ◌*◌, ltb};
 ghost use Rattle.chains.specs.Call.{at_index, begin, recorded, call};
-ghost use Rattle.chains.specs.FixupChains.{record_at};
-ghost use Rattle.chains.specs.Told.{start_told, told};
+ghost use Rattle.runs.specs.Told.{start_told, told};
 
-mod fields;
 pub mod header;
 mod record;
 
-use fields::u32_at;
-use header::{Header, HeaderRead};
-use numbers::Number;
+use header::Header;
 use numbers::little_endian::read_u32;
-use record::{SegmentRead, read_record};
+use record::read_record;
 use refusal::Refusal;
+use runs::Step;
 
 // What is known of a segment's chains: its index, its offset in memory, the largest value that is a pointer
 // (not applied), the place and number of the starts in the lent bytes, the size of its pages, the format of
-// its pointers, and the number of its pages.
-#[derive(Clone, Copy)]
+// its pointers, and the number of its pages. (The format is a number: segments of formats that no page walk reads are
+// listed too, to C as well.)
+#[derive(Clone, Copy, Debug, PartialEq, Eq)]
 pub struct Segment {
     pub index: u64,
     pub segment_offset: u64,
@@ -35,94 +33,69 @@ pub struct Segment {
 }
 
 // Where the starts are in the lent bytes, how many segments they have, and the index of the next.
-#[derive(Clone, Copy)]
+#[derive(Clone, Copy, Debug, PartialEq, Eq)]
 pub struct SegmentWalk {
     pub place: usize,
     pub count: u64,
     pub index: u64,
 }
 
-#[derive(Clone, Copy)]
-pub enum SegmentStart {
-    Begun(SegmentWalk),
-    Refused(Refusal),
-}
-
-#[derive(Clone, Copy)]
-pub enum SegmentStep {
-    Item(SegmentWalk, Segment),
-    End(SegmentWalk),
-    Refused(SegmentWalk, Refusal),
-}
-
 impl SegmentWalk {
     // A walk over the segments of chained fixups.
-    pub fn start(s: &[u8]) -> SegmentStart
+    #[tactic(auto, unfolding(crate::specs::Call::begin, crate::specs::FixupChains::then_starts, crate::specs::FixupChains::then_header, numbers::specs::Then::then, numbers::specs::LittleEndian::field_at))]
+    pub fn start(s: &[u8]) -> Result<SegmentWalk, Refusal>
         ensures { start_told result ≡ begin s.now }
     {
-        match Header::parse(s) {
-            HeaderRead::Refused(e) => SegmentStart::Refused(e),
-            HeaderRead::Read(header) => {
-                let place = header.starts_offset as usize;
-                let Number::Value(count, at) = read_u32(s, place) else {
-                    return SegmentStart::Refused(Refusal::FaultyChains);
-                };
-                if (((s.len() - at) / 4) as u64) < count {
-                    return SegmentStart::Refused(Refusal::FaultyChains);
-                }
-                SegmentStart::Begun(SegmentWalk {
-                    place,
-                    count,
-                    index: 0,
-                })
-            }
+        let header = Header::parse(s)?;
+        let place = header.starts_offset as usize;
+        let (count, at) = read_u32(s, place).ok_or(Refusal::FaultyChains)?;
+        if (((s.len() - at) / 4) as u64) < count {
+            return Err(Refusal::FaultyChains);
         }
+        Ok(SegmentWalk {
+            place,
+            count,
+            index: 0,
+        })
     }
 
     // The next segment that has fixups, the end or a refusal, and the next state, for any state and any
     // bytes. A segment whose record is refused is passed over by the next call.
-    pub fn step(self, s: &[u8]) -> SegmentStep
+    #[tactic(auto, unfolding(crate::specs::Call::call))]
+    pub fn step(self, s: &[u8]) -> Step<SegmentWalk, Segment>
         ensures { told result ≡ call s.now self }
     {
         if self.out_of_range(s.len()) {
-            return SegmentStep::Refused(self, Refusal::StateOutOfRange);
+            return Step::Refused(self, Refusal::StateOutOfRange);
         }
-        let mut index = self.index;
-        while index < self.count {
-            let offset = u32_at(s, self.place + 4 + 4 * (index as usize));
+        for index in self.index..self.count {
+            let (offset, _) = read_u32(s, self.place + 4 + 4 * (index as usize)).unwrap();
             if offset != 0 {
-                return self.at(index + 1).record(s, index, offset);
+                let at = self.place.saturating_add(offset as usize);
+                return self.at(index + 1).record(read_record(s, index, at));
             }
-            index += 1;
         }
-        SegmentStep::End(self.at(index))
+        let last = self.index.max(self.count);
+        Step::End(self.at(last))
     }
 
     // Whether the starts do not lie in so many bytes.
     fn out_of_range(self, len: usize) -> bool
         ensures { result ≡ ltb len (self.place + 4 + 4 * self.count) }
     {
-        if len < self.place {
-            return true;
-        }
-        if len - self.place < 4 {
-            return true;
-        }
-        let at = self.place + 4;
-        (((len - at) / 4) as u64) < self.count
+        len < self.place
+            || len - self.place < 4
+            || (((len - self.place - 4) / 4) as u64) < self.count
     }
 
-    // The record at an offset from the starts, with the state behind it.
-    fn record(self, s: &[u8], index: u64, offset: u64) -> SegmentStep
-        requires { self.place ≤ length s.now }
-        ensures { told result ≡ recorded self (record_at s.now index (self.place + offset)) }
+    // A record, and the state behind it.
+    #[tactic(auto, unfolding(crate::specs::Call::recorded))]
+    fn record(self, read: Option<Segment>) -> Step<SegmentWalk, Segment>
+        ensures { told result ≡ recorded self read }
     {
-        if ((s.len() - self.place) as u64) < offset {
-            return SegmentStep::Refused(self, Refusal::FaultyChains);
-        }
-        match read_record(s, index, self.place + offset as usize) {
-            SegmentRead::Found(segment) => SegmentStep::Item(self, segment),
-            SegmentRead::Fault => SegmentStep::Refused(self, Refusal::FaultyChains),
+        match read {
+            Some(segment) => Step::Item(self, segment),
+            None => Step::Refused(self, Refusal::FaultyChains),
         }
     }
 
@@ -130,10 +103,6 @@ impl SegmentWalk {
     fn at(self, index: u64) -> SegmentWalk
         ensures { result ≡ at_index index self }
     {
-        SegmentWalk {
-            place: self.place,
-            count: self.count,
-            index,
-        }
+        SegmentWalk { index, ..self }
     }
 }

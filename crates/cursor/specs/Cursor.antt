@@ -1,7 +1,7 @@
 -- A cursor: where a walk stands. `at` is the place in the stream where it reads on; of a repeat that is not yet all
 -- yielded `remaining` places are left, each `advance` from the one before it; `offset` is the offset in the segment;
 -- `size` the pointer size; `ended` says that the walk was refused.
-use Rattle.std.specs.Prelude.{ℕ, zero, suc, ◌+◌, ◌%◌, ◌^◌, Bool, true, false, cond, ◌&&◌, ◌||◌, ◌==◌, nat_le}
+use Rattle.std.specs.Prelude.{ℕ, zero, suc, ◌+◌, ◌%◌, ◌^◌, Bool, true, false, cond, ◌&&◌, ◌||◌, ◌==◌, nat_le, Result, Ok, Err}
 use Rattle.cursor.specs.Motion.{turn_of}
 use Rattle.cursor.specs.declared.Cursor.{Cursor}
 use Rattle.cursor.specs.declared.Motion.{Motion}
@@ -9,10 +9,9 @@ use Rattle.cursor.specs.declared.Moved.{Moved}
 use Rattle.cursor.specs.declared.Moved.TheVariants as moved
 use Rattle.cursor.specs.declared.Standing.{Standing}
 use Rattle.cursor.specs.declared.Standing.TheVariants as standing
-use Rattle.cursor.specs.declared.Start.{Start}
-use Rattle.cursor.specs.declared.Start.TheVariants as start
 use Rattle.cursor.specs.declared.Turn.{Turn}
 use Rattle.cursor.specs.declared.Turn.TheVariants as turn
+use Rattle.refusal.specs.declared.Refusal.{Refusal}
 use Rattle.refusal.specs.declared.Refusal.TheVariants.{PointerSize}
 
 abbrev pub is_pointer_size : ℕ → Bool
@@ -23,22 +22,15 @@ is_pointer_size size = size == 4 || size == 8
 abbrev pub at_start : (size : ℕ) → Cursor
 at_start size = record { at = 0; remaining = 0; advance = 0; offset = 0; size = size; ended = false }
 
-unfoldable pub start_of : (size : ℕ) → Start
-start_of size = cond (is_pointer_size size) (start.Begun (at_start size)) (start.Refused PointerSize)
+unfoldable pub start_of : (size : ℕ) → Result Cursor Refusal
+start_of size = cond (is_pointer_size size) (Ok (at_start size)) (Err PointerSize)
 
 -- ---- what a call has to do
 
 -- the cursor behind a place at its offset
 abbrev pub behind_place : Cursor → (left advance : ℕ) → Cursor
 behind_place c left advance =
-    record {
-      at = c.at;
-      remaining = left;
-      advance = advance;
-      offset = (c.offset + advance) % 2 ^ 64;
-      size = c.size;
-      ended = c.ended;
-    }
+    record c { remaining = left; advance = advance; offset = (c.offset + advance) % 2 ^ 64 }
 
 -- the read place is not beyond the bytes, and the pointer size is 4 or 8
 abbrev pub in_range : Cursor → (len : ℕ) → Bool
@@ -53,28 +45,12 @@ standing_of c len =
     cond (in_range c len) (cond c.ended standing.Ended (live_standing c c.remaining)) standing.OutOfRange
 
 abbrev pub marked_ended : Cursor → Cursor
-marked_ended c =
-    record {
-      at = c.at;
-      remaining = c.remaining;
-      advance = c.advance;
-      offset = c.offset;
-      size = c.size;
-      ended = true;
-    }
+marked_ended c = record c { ended = true }
 
 -- ---- what an operation makes of the cursor; `next` is the place behind the operation
 
 abbrev pub read_to : (next : ℕ) → Cursor → (offset : ℕ) → Cursor
-read_to next c offset =
-    record {
-      at = next;
-      remaining = c.remaining;
-      advance = c.advance;
-      offset = offset;
-      size = c.size;
-      ended = c.ended;
-    }
+read_to next c offset = record c { at = next; offset = offset }
 
 -- as at a start, but for the read place
 abbrev pub anew : (next : ℕ) → Cursor → Cursor

@@ -4,14 +4,14 @@
 #![tactic(auto)]
 
 ghost use Rattle.std.specs.Prelude.{◌≡◌, ◌*◌};
-ghost use Rattle.cursor.specs.Cursor.{is_pointer_size, behind_place, start_of, standing_of, moved_of};
+ghost use Rattle.cursor.specs.Cursor.{is_pointer_size, at_start, behind_place, start_of, standing_of, moved_of};
 ghost use Rattle.cursor.specs.Motion.{turn_of};
 
 use refusal::Refusal;
 
 // What an operation does to the place, or says. A repeat has a count of places, and what each of them
 // adds to the offset beside the pointer size.
-#[derive(Clone, Copy)]
+#[derive(Clone, Copy, Debug, PartialEq, Eq)]
 pub enum Motion {
     Stays,
     Adds(u64),
@@ -24,7 +24,8 @@ pub enum Motion {
 
 // What that comes to at an offset. Where places are due: how many behind the first, and how far each is
 // from the one before it.
-#[derive(Clone, Copy)]
+// (A `Result` round the other cases would be no plainer: who asks tells all of them apart in one match.)
+#[derive(Clone, Copy, Debug, PartialEq, Eq)]
 pub enum Turn {
     On(u64),
     Anew,
@@ -33,7 +34,7 @@ pub enum Turn {
     Refused(Refusal),
 }
 
-#[derive(Clone, Copy)]
+#[derive(Clone, Copy, Debug, PartialEq, Eq)]
 pub struct Cursor {
     pub at: usize,
     pub remaining: u64,
@@ -43,14 +44,8 @@ pub struct Cursor {
     pub ended: bool,
 }
 
-#[derive(Clone, Copy)]
-pub enum Start {
-    Begun(Cursor),
-    Refused(Refusal),
-}
-
 // What a call has to do. A place that is due comes with the cursor behind it.
-#[derive(Clone, Copy)]
+#[derive(Clone, Copy, Debug, PartialEq, Eq)]
 pub enum Standing {
     OutOfRange,
     Ended,
@@ -59,7 +54,8 @@ pub enum Standing {
 }
 
 // What an operation makes of the cursor. A place that is due comes with the cursor behind it.
-#[derive(Clone, Copy)]
+// (No `Result` round the others, as in `Turn`.)
+#[derive(Clone, Copy, Debug, PartialEq, Eq)]
 pub enum Moved {
     On(Cursor),
     Due(Cursor),
@@ -67,28 +63,22 @@ pub enum Moved {
     Refused(Refusal),
 }
 
-// What a place that is due lacks.
-#[derive(Clone, Copy)]
-pub enum Lack {
-    Nothing,
-    Lacks(Refusal),
-}
-
 impl Motion {
     // The turn of a stream at a pointer size and an offset.
+    #[tactic(auto, unfolding(crate::specs::Motion::turn_of))]
     pub fn turned(self, size: u8, offset: u64) -> Turn
         ensures { result ≡ turn_of size offset self }
     {
         match self {
             Motion::Stays => Turn::On(offset),
-            Motion::Adds(n) => Turn::On(std::num::wrapping_add_u64(offset, n)),
+            Motion::Adds(n) => Turn::On(offset.wrapping_add(n)),
             Motion::Seeks(to) => Turn::On(to),
             Motion::Restarts => Turn::Anew,
             Motion::Repeats(count, addition) => {
                 if count == 0 {
                     return Turn::On(offset);
                 }
-                let advance = std::num::wrapping_add_u64(size as u64, addition);
+                let advance = u64::from(size).wrapping_add(addition);
                 Turn::Due(count - 1, advance)
             }
             Motion::Ends => Turn::End,
@@ -99,60 +89,59 @@ impl Motion {
 
 impl Cursor {
     // The cursor at the start of a stream of a pointer size.
-    pub fn start(size: u8) -> Start
+    #[tactic(auto, unfolding(crate::specs::Cursor::start_of))]
+    pub fn start(size: u8) -> Result<Cursor, Refusal>
         ensures { result ≡ start_of size }
     {
-        if is_pointer_size(size) {
-            return Start::Begun(Cursor {
-                at: 0,
-                remaining: 0,
-                advance: 0,
-                offset: 0,
-                size,
-                ended: false,
-            });
+        if !is_pointer_size(size) {
+            return Err(Refusal::PointerSize);
         }
-        Start::Refused(Refusal::PointerSize)
+        Ok(Cursor::at_start(size))
+    }
+
+    fn at_start(size: u8) -> Cursor
+        ensures { result ≡ at_start size }
+    {
+        Cursor {
+            at: 0,
+            remaining: 0,
+            advance: 0,
+            offset: 0,
+            size,
+            ended: false,
+        }
     }
 
     // What a call has to do, given a stream of so many bytes.
+    #[tactic(auto, unfolding(crate::specs::Cursor::standing_of))]
     pub fn standing(self, len: usize) -> Standing
         ensures { result ≡ standing_of self len }
     {
-        if len < self.at {
+        if len < self.at || !is_pointer_size(self.size) {
             return Standing::OutOfRange;
         }
-        if is_pointer_size(self.size) {
-            if self.ended {
-                return Standing::Ended;
-            }
-            if self.remaining == 0 {
-                return Standing::Reading;
-            }
-            let left = self.remaining - 1;
-            return Standing::Due(self.behind_place(left, self.advance));
+        if self.ended {
+            return Standing::Ended;
         }
-        Standing::OutOfRange
+        if self.remaining == 0 {
+            return Standing::Reading;
+        }
+        let left = self.remaining - 1;
+        Standing::Due(self.behind_place(left, self.advance))
     }
 
     // What an operation makes of the cursor. The place behind the operation is `next`.
+    #[tactic(auto, unfolding(crate::specs::Cursor::moved_by))]
     pub fn moved(self, next: usize, motion: Motion) -> Moved
         ensures { result ≡ moved_of self next motion }
     {
-        let mut c = self;
-        c.at = next;
+        let c = Cursor { at: next, ..self };
         match motion.turned(self.size, self.offset) {
-            Turn::On(offset) => {
-                c.offset = offset;
-                Moved::On(c)
-            }
-            Turn::Anew => {
-                c.remaining = 0;
-                c.advance = 0;
-                c.offset = 0;
-                c.ended = false;
-                Moved::On(c)
-            }
+            Turn::On(offset) => Moved::On(Cursor { offset, ..c }),
+            Turn::Anew => Moved::On(Cursor {
+                at: next,
+                ..Cursor::at_start(self.size)
+            }),
             Turn::Due(left, advance) => Moved::Due(c.behind_place(left, advance)),
             Turn::End => Moved::End(c),
             Turn::Refused(e) => Moved::Refused(e),
@@ -160,13 +149,15 @@ impl Cursor {
     }
 
     // The cursor behind a place at its offset, with so many left.
-    fn behind_place(mut self, left: u64, advance: u64) -> Cursor
+    fn behind_place(self, left: u64, advance: u64) -> Cursor
         ensures { result ≡ behind_place self left advance }
     {
-        self.remaining = left;
-        self.advance = advance;
-        self.offset = std::num::wrapping_add_u64(self.offset, advance);
-        self
+        Cursor {
+            remaining: left,
+            advance,
+            offset: self.offset.wrapping_add(advance),
+            ..self
+        }
     }
 }
 
@@ -174,14 +165,11 @@ impl Cursor {
 pub fn scaled(count: u8, size: u8) -> u64
     ensures { result ≡ count * size }
 {
-    (count as u64) * (size as u64)
+    u64::from(count) * u64::from(size)
 }
 
 fn is_pointer_size(size: u8) -> bool
     ensures { result ≡ is_pointer_size size }
 {
-    if size == 4 {
-        return true;
-    }
-    size == 8
+    size == 4 || size == 8
 }

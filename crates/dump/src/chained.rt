@@ -1,193 +1,175 @@
 // Chained fixups: their segments, and their imports.
-use crate::closing::{Ending, List, close, listed, name};
-use crate::file::{Loaded, load_stream};
-use crate::line::{Lines, Out};
-use crate::words::Words;
-use crate::{Host, usage};
-use chains::{Segment, SegmentStart, SegmentStep, SegmentWalk};
-use imports::{Import, ImportStart, ImportStep, ImportWalk};
-use numbers::parts::part;
+use crate::closing;
+use crate::closing::{Ending, Faults, Source, name};
+use crate::line::{Lines, Quoted};
+use chains::{Segment, SegmentWalk};
+use imports::{Import, ImportWalk};
 use refusal::Refusal;
-use std::num::{wrapping_add_u64, wrapping_sub_u64};
+use runs::Step;
+use std::io::{self, Write};
 
-// How many records are refused; and of the first of them the refusal, the place of the starts and the segment's index.
-#[derive(Clone, Copy)]
-struct Faults {
-    count: u64,
-    refusal: Refusal,
-    place: u64,
-    index: u64,
+pub(crate) fn list_segments(s: &[u8], max: u64, lines: &mut Lines) -> io::Result<()> {
+    closing::list(Segments::start(s), max, lines)
 }
 
-pub(crate) fn list_segments(rt: &impl Host, w: Words, room: &mut [u8]) {
-    if !w.are(rt, 2, usage::SEGMENTS) {
-        return;
+#[derive(Drop)]
+struct Segments<'s> {
+    walk: SegmentWalk,
+    s: &'s [u8],
+    faults: Option<Faults>,
+}
+
+impl<'s> Segments<'s> {
+    fn start(s: &'s [u8]) -> Result<Segments<'s>, Refusal> {
+        let walk = SegmentWalk::start(s)?;
+        Ok(Segments {
+            walk,
+            s,
+            faults: None,
+        })
     }
-    let Loaded::Bytes(n) = load_stream(rt, w.at[1], w.raw, room) else {
-        return;
-    };
-    let mut lines = Lines::start(rt);
-    let list = segments(part(room, 0, n), w.max, &mut lines);
-    close(&mut lines, list);
-}
 
-fn segments(s: &[u8], max: u64, lines: &mut Lines) -> List {
-    match SegmentWalk::start(s) {
-        SegmentStart::Begun(w) => each_segment(w, s, max, lines),
-        SegmentStart::Refused(e) => listed(Out::start(), 0, Ending::Refused(e, 0, 0)),
+    // How the list ends, which would end so without any fault.
+    fn or(&self, ending: Ending) -> Ending {
+        match self.faults {
+            Some(faults) => Ending::Records(faults),
+            None => ending,
+        }
+    }
+
+    // One more record is refused, behind which the walk stands.
+    fn fault(&mut self, why: Refusal) {
+        self.faults = match self.faults {
+            Some(first) => Some(Faults {
+                records: first.records.wrapping_add(1),
+                ..first
+            }),
+            None => Some(Faults {
+                records: 1,
+                why,
+                place: self.walk.place as u64,
+                index: passed(self.walk),
+            }),
+        }
     }
 }
 
 // The walk goes on behind a record that is refused, and the record is listed as such.
-fn each_segment(start: SegmentWalk, s: &[u8], max: u64, lines: &mut Lines) -> List {
-    let mut w = start;
-    let mut out = Out::start();
-    let mut count: u64 = 0;
-    let mut faults = Faults::none();
-    while !out.broken {
-        match w.step(s) {
-            SegmentStep::Item(next, x) => {
-                if count == max {
-                    return listed(out, count, faults.or(Ending::Cut));
-                }
-                count += 1;
-                out = segment(lines, out, x);
-                w = next;
+impl Source for Segments<'_> {
+    type Item = Result<Segment, Refusal>;
+
+    fn next(&mut self) -> Result<Result<Segment, Refusal>, Ending> {
+        match self.walk.step(self.s) {
+            Step::Item(next, x) => {
+                self.walk = next;
+                Ok(Ok(x))
             }
-            SegmentStep::End(_) => return listed(out, count, faults.or(Ending::End)),
-            SegmentStep::Refused(next, e) => {
-                if count == max {
-                    return listed(out, count, faults.or(Ending::Cut));
-                }
-                count += 1;
-                faults = faults.and(e, next);
-                out = faulty(lines, out, e, next);
-                w = next;
+            Step::End(_) => Err(self.or(Ending::End)),
+            Step::Refused(next, why) => {
+                self.walk = next;
+                Ok(Err(why))
             }
         }
     }
-    listed(out, count, Ending::Cut)
-}
 
-impl Faults {
-    fn none() -> Faults {
-        Faults {
-            count: 0,
-            refusal: Refusal::FaultyChains,
-            place: 0,
-            index: 0,
+    fn print(
+        &mut self,
+        record: Result<Segment, Refusal>,
+        _: u64,
+        lines: &mut Lines,
+    ) -> io::Result<()> {
+        match record {
+            Ok(x) => segment(x, lines),
+            Err(why) => {
+                self.fault(why);
+                let index = passed(self.walk);
+                let number = why.number();
+                let name = name(why);
+                writeln!(
+                    lines,
+                    "segment {index:>7}  refused  number {number}  name \"{name}\""
+                )
+            }
         }
     }
 
-    // One more, behind which the walk stands.
-    fn and(self, e: Refusal, w: SegmentWalk) -> Faults {
-        let first = self.refusal;
-        if self.count == 0 {
-            return Faults {
-                count: 1,
-                refusal: e,
-                place: w.place as u64,
-                index: passed(w),
-            };
-        }
-        Faults {
-            count: wrapping_add_u64(self.count, 1),
-            refusal: first,
-            place: self.place,
-            index: self.index,
-        }
-    }
-
-    // How the list ends, which would end so without any fault.
-    fn or(self, ending: Ending) -> Ending {
-        let first = self.refusal;
-        if self.count == 0 {
-            return ending;
-        }
-        Ending::Records(first, self.place, self.index, self.count)
+    fn cut(&self) -> Ending {
+        self.or(Ending::Cut)
     }
 }
 
 // The index of the segment that the walk has passed last.
-fn passed(w: SegmentWalk) -> u64 {
-    wrapping_sub_u64(w.index, 1)
+pub(crate) fn passed(walk: SegmentWalk) -> u64 {
+    walk.index.wrapping_sub(1)
 }
 
-fn faulty(lines: &mut Lines, out: Out, e: Refusal, w: SegmentWalk) -> Out {
-    let out = out.decimal(lines, b"segment ", 7, passed(w));
-    let out = out.decimal(lines, b"  refused  number ", 0, e.number() as u64);
-    name(lines, out, e)
+fn segment(x: Segment, lines: &mut Lines) -> io::Result<()> {
+    let Segment {
+        index,
+        segment_offset,
+        max_valid_pointer,
+        place,
+        count,
+        page_size,
+        pointer_format,
+        page_count,
+    } = x;
+    write!(
+        lines,
+        "segment {index:>7}  offset {segment_offset:#018x}  format {pointer_format:>5}"
+    )?;
+    write!(
+        lines,
+        "  page {page_size:#06x}  pages {page_count:>5}  limit {max_valid_pointer:#010x}"
+    )?;
+    writeln!(lines, "  starts {count:>7}  place {place:>7}")
 }
 
-fn segment(lines: &mut Lines, out: Out, x: Segment) -> Out {
-    let out = out.decimal(lines, b"segment ", 7, x.index);
-    let out = out.hex(lines, b"  offset ", 16, x.segment_offset);
-    let out = out.decimal(lines, b"  format ", 5, x.pointer_format as u64);
-    paged(lines, out, x)
+pub(crate) fn list_imports(s: &[u8], max: u64, lines: &mut Lines) -> io::Result<()> {
+    closing::list(Imports::start(s), max, lines)
 }
 
-fn paged(lines: &mut Lines, out: Out, x: Segment) -> Out {
-    let out = out.hex(lines, b"  page ", 4, x.page_size as u64);
-    let out = out.decimal(lines, b"  pages ", 5, x.page_count as u64);
-    let out = out.hex(lines, b"  limit ", 8, x.max_valid_pointer);
-    started(lines, out, x)
+#[derive(Drop)]
+struct Imports<'s> {
+    walk: ImportWalk,
+    s: &'s [u8],
 }
 
-fn started(lines: &mut Lines, out: Out, x: Segment) -> Out {
-    let out = out.decimal(lines, b"  starts ", 7, x.count);
-    let out = out.decimal(lines, b"  place ", 7, x.place as u64);
-    out.byte(lines, b'\n')
-}
-
-pub(crate) fn list_imports(rt: &impl Host, w: Words, room: &mut [u8]) {
-    if !w.are(rt, 2, usage::IMPORTS) {
-        return;
-    }
-    let Loaded::Bytes(n) = load_stream(rt, w.at[1], w.raw, room) else {
-        return;
-    };
-    let mut lines = Lines::start(rt);
-    let list = imports(part(room, 0, n), w.max, &mut lines);
-    close(&mut lines, list);
-}
-
-fn imports(s: &[u8], max: u64, lines: &mut Lines) -> List {
-    match ImportWalk::start(s) {
-        ImportStart::Begun(w) => each_import(w, s, max, lines),
-        ImportStart::Refused(e) => listed(Out::start(), 0, Ending::Refused(e, 0, 0)),
+impl<'s> Imports<'s> {
+    fn start(s: &'s [u8]) -> Result<Imports<'s>, Refusal> {
+        let walk = ImportWalk::start(s)?;
+        Ok(Imports { walk, s })
     }
 }
 
-fn each_import(start: ImportWalk, s: &[u8], max: u64, lines: &mut Lines) -> List {
-    let mut w = start;
-    let mut out = Out::start();
-    let mut count: u64 = 0;
-    while !out.broken {
-        match w.step(s) {
-            ImportStep::Item(next, x) => {
-                if count == max {
-                    return listed(out, count, Ending::Cut);
-                }
-                out = import(lines, out, count, x, s);
-                count += 1;
-                w = next;
+impl Source for Imports<'_> {
+    type Item = Import;
+
+    fn next(&mut self) -> Result<Import, Ending> {
+        match self.walk.step(self.s) {
+            Step::Item(next, x) => {
+                self.walk = next;
+                Ok(x)
             }
-            ImportStep::End(_) => return listed(out, count, Ending::End),
-            ImportStep::Refused(stood, e) => {
-                return listed(out, count, Ending::Refused(e, stood.place as u64, count));
-            }
+            Step::End(_) => Err(Ending::End),
+            Step::Refused(stood, why) => Err(Ending::Refused {
+                why,
+                place: stood.place as u64,
+            }),
         }
     }
-    listed(out, count, Ending::Cut)
-}
 
-fn import(lines: &mut Lines, out: Out, index: u64, x: Import, s: &[u8]) -> Out {
-    let out = imported(lines, out, index, x);
-    out.symbol(lines, x.addend, x.name(s))
-}
-
-fn imported(lines: &mut Lines, out: Out, index: u64, x: Import) -> Out {
-    let out = out.decimal(lines, b"import ", 7, index);
-    let out = out.library(lines, 5, x.library);
-    out.decimal(lines, b"  weak ", 1, packing::bit(x.weak))
+    fn print(&mut self, x: Import, index: u64, lines: &mut Lines) -> io::Result<()> {
+        let Import {
+            library,
+            addend,
+            ..
+        } = x;
+        let weak = u8::from(x.weak);
+        let name = Quoted(x.name(self.s));
+        writeln!(
+            lines,
+            "import {index:>7}  library {library:>5}  weak {weak}  addend {addend:>20}  name {name}"
+        )
+    }
 }

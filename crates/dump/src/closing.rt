@@ -1,139 +1,133 @@
-// The closing line: how a list ends.
-use crate::line::{Lines, Out, trimmed};
-use numbers::parts::part;
+// Lists: a line for each item, and a closing line that says how the list ends.
+use crate::line::Lines;
 use refusal::Refusal;
-
-const ROWS: usize = 21;
-
-// The refusals by their numbers.
-const NUMBERS: [u8; ROWS] = [
-    1, 2, 3, 4, 5, 6, 7, 8, 9, 10, 11, 12, 13, 14, 15, 16, 17, 18, 19, 20, 21,
-];
-
-// Their names in words, in the same order.
-const NAMES: [[u8; 56]; ROWS] = [
-    *b"pointer size is neither 4 nor 8                         ",
-    *b"opcode that this reader does not know                   ",
-    *b"operand cut off or malformed                            ",
-    *b"library number too large                                ",
-    *b"place before any segment was chosen                     ",
-    *b"place before any type was chosen                        ",
-    *b"bind before any library was chosen                      ",
-    *b"bind before any symbol was named                        ",
-    *b"chained fixups do not fit their bytes                   ",
-    *b"version of chained fixups that this reader does not know",
-    *b"format that this reader does not know                   ",
-    *b"page or chain beyond the list of starts                 ",
-    *b"chained pointer outside the segment's bytes             ",
-    *b"import does not fit its bytes                           ",
-    *b"trie node or edge malformed                             ",
-    *b"trie node is its own ancestor                           ",
-    *b"too many trie nodes open at once                        ",
-    *b"exported name longer than the room for it               ",
-    *b"walk state that no walk can have                        ",
-    *b"place outside its segment                               ",
-    *b"too many segment sizes, or one too large                ",
-];
+use std::io::{self, Write};
 
 // How a list ends: all is listed; all up to a Done, with so many bytes read of so many; there is more than was asked
 // for; so many nodes were visited, and no further; nothing is listed, and the preflight passes; a refusal, with its
-// place and index; or the same of the first of so many records.
+// place; or the same of the first of so many records, with its index.
 #[derive(Clone, Copy)]
 pub(crate) enum Ending {
     End,
-    Done(u64, u64),
+    Done { read: usize, of: usize },
     Cut,
-    Spent(u64),
+    Spent { nodes: u64 },
     Pass,
-    Refused(Refusal, u64, u64),
-    Records(Refusal, u64, u64, u64),
+    Refused { why: Refusal, place: u64 },
+    Records(Faults),
 }
 
-// A list but for its last line: what waits to be written, the number that the line tells, and its ending.
+// How many records are refused; and of the first of them the refusal, the place and the index.
 #[derive(Clone, Copy)]
-pub(crate) struct List {
-    out: Out,
-    count: u64,
-    ending: Ending,
+pub(crate) struct Faults {
+    pub(crate) records: u64,
+    pub(crate) why: Refusal,
+    pub(crate) place: u64,
+    pub(crate) index: u64,
 }
 
-pub(crate) fn listed(out: Out, count: u64, ending: Ending) -> List {
-    List { out, count, ending }
+// What gives the items of a list. (The sources' `next` are alike, but that each steps over bytes of its own and tells
+// a place its own way.)
+pub(crate) trait Source {
+    type Item: Drop;
+
+    // The next item; or how the list ends.
+    fn next(&mut self) -> Result<Self::Item, Ending>;
+
+    // The line of an item, which has an index in the list.
+    fn print(&mut self, item: Self::Item, index: u64, lines: &mut Lines) -> io::Result<()>;
+
+    // How the list ends where there is more than was asked for.
+    fn cut(&self) -> Ending {
+        Ending::Cut
+    }
 }
 
-// The last line, and then all is written.
-pub(crate) fn close(lines: &mut Lines, list: List) {
-    let ending = list.ending;
+// Lists so many items of a source, or says why it cannot begin. (The limit and the lines come apart: a preflight has
+// lines and no limit.)
+pub(crate) fn list<S: Source + Drop>(
+    start: Result<S, Refusal>,
+    max: u64,
+    lines: &mut Lines,
+) -> io::Result<()> {
+    match start {
+        Ok(source) => each(source, max, lines),
+        Err(why) => close(lines, 0, Ending::Refused { why, place: 0 }),
+    }
+}
+
+fn each<S: Source + Drop>(mut source: S, max: u64, lines: &mut Lines) -> io::Result<()> {
+    for count in 0..max {
+        match source.next() {
+            Ok(item) => source.print(item, count, lines)?,
+            Err(ending) => return close(lines, count, ending),
+        }
+    }
+    match source.next() {
+        Ok(_) => close(lines, max, source.cut()),
+        Err(ending) => close(lines, max, ending),
+    }
+}
+
+// The last line, with the number that it tells, and then all is written.
+pub(crate) fn close(lines: &mut Lines, n: u64, ending: Ending) -> io::Result<()> {
     match ending {
-        Ending::End => counted(lines, list.out, b"end  items ", list.count),
-        Ending::Done(read, of) => done(lines, list, read, of),
-        Ending::Cut => counted(lines, list.out, b"cut  items ", list.count),
-        Ending::Spent(nodes) => spent(lines, list, nodes),
-        Ending::Pass => counted(lines, list.out, b"pass  operations ", list.count),
-        Ending::Refused(e, place, index) => refused(lines, list.out, e, place, index),
-        Ending::Records(e, place, index, records) => {
-            let out = numbered(lines, list.out, e, place, index);
-            let out = out.decimal(lines, b"  records ", 0, records);
-            name(lines, out, e).finish(lines);
+        Ending::End => writeln!(lines, "end  items {n}")?,
+        Ending::Done { read, of } => writeln!(lines, "end  items {n}  read {read}  of {of}")?,
+        Ending::Cut => writeln!(lines, "cut  items {n}")?,
+        Ending::Spent { nodes } => writeln!(lines, "spent  items {n}  nodes {nodes}")?,
+        Ending::Pass => writeln!(lines, "pass  operations {n}")?,
+        Ending::Refused { why, place } => {
+            let number = why.number();
+            let name = name(why);
+            writeln!(
+                lines,
+                "refused  number {number}  place {place}  index {n}  name \"{name}\""
+            )?;
         }
+        Ending::Records(faults) => refused_records(lines, faults)?,
     }
+    lines.flush()
 }
 
-fn counted(lines: &mut Lines, out: Out, what: &[u8], n: u64) {
-    let out = out.decimal(lines, what, 0, n);
-    out.byte(lines, b'\n').finish(lines);
+fn refused_records(lines: &mut Lines, faults: Faults) -> io::Result<()> {
+    let Faults {
+        records,
+        why,
+        place,
+        index,
+    } = faults;
+    let number = why.number();
+    let name = name(why);
+    writeln!(
+        lines,
+        "refused  number {number}  place {place}  index {index}  records {records}  name \"{name}\""
+    )
 }
 
-fn done(lines: &mut Lines, list: List, read: u64, of: u64) {
-    let out = list.out.decimal(lines, b"end  items ", 0, list.count);
-    let out = out.decimal(lines, b"  read ", 0, read);
-    let out = out.decimal(lines, b"  of ", 0, of);
-    out.byte(lines, b'\n').finish(lines);
-}
-
-fn spent(lines: &mut Lines, list: List, nodes: u64) {
-    let out = list.out.decimal(lines, b"spent  items ", 0, list.count);
-    let out = out.decimal(lines, b"  nodes ", 0, nodes);
-    out.byte(lines, b'\n').finish(lines);
-}
-
-fn refused(lines: &mut Lines, out: Out, e: Refusal, place: u64, index: u64) {
-    let out = numbered(lines, out, e, place, index);
-    name(lines, out, e).finish(lines);
-}
-
-fn numbered(lines: &mut Lines, out: Out, e: Refusal, place: u64, index: u64) -> Out {
-    let out = out.decimal(lines, b"refused  number ", 0, e.number() as u64);
-    let out = out.decimal(lines, b"  place ", 0, place);
-    out.decimal(lines, b"  index ", 0, index)
-}
-
-// The end of a line: a refusal's name in words.
-pub(crate) fn name(lines: &mut Lines, out: Out, e: Refusal) -> Out {
-    let row = row_of(e.number());
-    if ROWS <= row {
-        return out.byte(lines, b'\n');
+// The refusals in words.
+pub(crate) fn name(why: Refusal) -> &'static str {
+    match why {
+        Refusal::PointerSize => "pointer size is neither 4 nor 8",
+        Refusal::UnknownOpcode => "opcode that this reader does not know",
+        Refusal::FaultyOperand => "operand cut off or malformed",
+        Refusal::OrdinalTooLarge => "library number too large",
+        Refusal::NoSegment => "place before any segment was chosen",
+        Refusal::NoType => "place before any type was chosen",
+        Refusal::NoLibrary => "bind before any library was chosen",
+        Refusal::NoSymbol => "bind before any symbol was named",
+        Refusal::FaultyChains => "chained fixups do not fit their bytes",
+        Refusal::UnknownVersion => "version of chained fixups that this reader does not know",
+        Refusal::UnsupportedFormat => "format that this reader does not know",
+        Refusal::BeyondStarts => "page or chain beyond the list of starts",
+        Refusal::PointerOutside => "chained pointer outside the segment's bytes",
+        Refusal::FaultyImport => "import does not fit its bytes",
+        Refusal::FaultyNode => "trie node or edge malformed",
+        Refusal::ChildIsOpen => "trie node is its own ancestor",
+        Refusal::TooManyOpenNodes => "too many trie nodes open at once",
+        Refusal::NameTooLong => "exported name longer than the room for it",
+        Refusal::StateOutOfRange => "walk state that no walk can have",
+        Refusal::PlaceOutside => "place outside its segment",
+        Refusal::UnfitSizes => "too many segment sizes, or one too large",
     }
-    let names = NAMES;
-    let name = names[row];
-    titled(lines, out, &name)
-}
-
-// The row that has a number; behind them all where none has.
-fn row_of(number: u8) -> usize {
-    let numbers = NUMBERS;
-    let mut row: usize = 0;
-    while row < ROWS {
-        if numbers[row] == number {
-            return row;
-        }
-        row += 1;
-    }
-    row
-}
-
-fn titled(lines: &mut Lines, out: Out, name: &[u8; 56]) -> Out {
-    let s = &name[..];
-    let out = out.quoted(lines, b"  name ", part(s, 0, trimmed(s)));
-    out.byte(lines, b'\n')
 }

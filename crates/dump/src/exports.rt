@@ -1,11 +1,9 @@
 // The exports trie.
-use crate::closing::{Ending, List, close, listed};
-use crate::file::{Loaded, load_stream};
-use crate::line::{Lines, Out};
-use crate::words::Words;
-use crate::{Host, usage};
+use crate::closing;
+use crate::closing::{Ending, Source};
+use crate::line::{Lines, Quoted};
 use nodes::export::{Export, ExportData};
-use numbers::parts::part;
+use std::io::{self, Write};
 use trie::{TrieAnswer, TrieWalk};
 
 // The most nodes that are visited for one export. A trie that fits the room has fewer; one whose nodes are shared
@@ -15,90 +13,75 @@ const NODES: u64 = 0x100_0000;
 // The most bytes of a name.
 const LONGEST: usize = 65536;
 
-pub(crate) fn list(rt: &impl Host, w: Words, room: &mut [u8]) {
-    if !w.are(rt, 2, usage::EXPORTS) {
-        return;
-    }
-    let Loaded::Bytes(n) = load_stream(rt, w.at[1], w.raw, room) else {
-        return;
-    };
-    let mut lines = Lines::start(rt);
+pub(crate) fn list(s: &[u8], max: u64, lines: &mut Lines) -> io::Result<()> {
     let mut name = [0; LONGEST];
-    let list = each(part(room, 0, n), &mut name, w.max, &mut lines);
-    close(&mut lines, list);
+    let exports = Exports {
+        walk: TrieWalk::start(),
+        s,
+        name: &mut name,
+    };
+    closing::list(Ok(exports), max, lines)
 }
 
-fn each(s: &[u8], name: &mut [u8], max: u64, lines: &mut Lines) -> List {
-    let mut w = TrieWalk::start();
-    let mut out = Out::start();
-    let mut count: u64 = 0;
-    while !out.broken {
-        let told = w.step(s, name, NODES);
-        let answer = told.answer;
-        w = told.walk;
-        match answer {
-            TrieAnswer::Export { length, export } => {
-                if count == max {
-                    return listed(out, count, Ending::Cut);
-                }
-                count += 1;
-                out = exported(lines, out, export, part(name, 0, length as usize), s);
-            }
-            TrieAnswer::More => return listed(out, count, Ending::Spent(NODES)),
-            TrieAnswer::End => return listed(out, count, Ending::End),
-            TrieAnswer::Refused(e) => {
-                return listed(out, count, Ending::Refused(e, place(w), count));
+#[derive(Drop)]
+struct Exports<'s> {
+    walk: TrieWalk,
+    s: &'s [u8],
+    name: &'s mut [u8; LONGEST],
+}
+
+// An export, and the length of its name.
+#[derive(Clone, Copy)]
+struct Named {
+    export: Export,
+    length: u64,
+}
+
+impl Source for Exports<'_> {
+    type Item = Named;
+
+    fn next(&mut self) -> Result<Named, Ending> {
+        let told = self.walk.step(self.s, &mut self.name[..], NODES);
+        self.walk = told.walk;
+        match told.answer {
+            TrieAnswer::Export { length, export } => Ok(Named { export, length }),
+            TrieAnswer::More => Err(Ending::Spent { nodes: NODES }),
+            TrieAnswer::End => Err(Ending::End),
+            TrieAnswer::Refused(why) => Err(Ending::Refused {
+                why,
+                place: place(&self.walk).unwrap_or(0),
+            }),
+        }
+    }
+
+    fn print(&mut self, x: Named, _: u64, lines: &mut Lines) -> io::Result<()> {
+        let name = Quoted(self.name.get(..x.length as usize).unwrap_or(&[]));
+        let flags = x.export.flags;
+        write!(lines, "export  flags {flags:#04x}")?;
+        match x.export.target {
+            ExportData::Regular { address } => writeln!(
+                lines,
+                "  address {address:#018x}  resolver                  -  name {name}"
+            ),
+            ExportData::StubAndResolver { stub, resolver } => writeln!(
+                lines,
+                "  address {stub:#018x}  resolver {resolver:#018x}  name {name}"
+            ),
+            ExportData::Reexport(import) => {
+                let library = import.ordinal;
+                let own = Quoted(import.name(self.s));
+                writeln!(
+                    lines,
+                    "  library {library:>18}  resolver                  -  name {name}  import {own}"
+                )
             }
         }
     }
-    listed(out, count, Ending::Cut)
 }
 
 // Where the next edge of the innermost open node is. Nodes that have none left are no longer open.
-fn place(w: TrieWalk) -> u64 {
-    let mut depth = w.depth;
-    if 256 < depth {
-        return 0;
-    }
-    while 0 < depth {
-        depth -= 1;
-        if 0 < w.left[depth] {
-            return w.places[depth];
-        }
-    }
-    0
-}
-
-fn exported(lines: &mut Lines, out: Out, x: Export, name: &[u8], s: &[u8]) -> Out {
-    let target = x.target;
-    let out = out.hex(lines, b"export  flags ", 2, x.flags as u64);
-    let out = targeted(lines, out, target);
-    let out = out.quoted(lines, b"  name ", name);
-    let out = imported(lines, out, target, s);
-    out.byte(lines, b'\n')
-}
-
-fn targeted(lines: &mut Lines, out: Out, target: ExportData) -> Out {
-    match target {
-        ExportData::Regular { address } => {
-            let out = out.hex(lines, b"  address ", 16, address);
-            out.text(lines, b"  resolver                  -")
-        }
-        ExportData::Reexport(import) => {
-            let out = out.decimal(lines, b"  library ", 18, import.ordinal);
-            out.text(lines, b"  resolver                  -")
-        }
-        ExportData::StubAndResolver { stub, resolver } => {
-            let out = out.hex(lines, b"  address ", 16, stub);
-            out.hex(lines, b"  resolver ", 16, resolver)
-        }
-    }
-}
-
-// Of a symbol that is taken from another library, the name that it has there.
-fn imported(lines: &mut Lines, out: Out, target: ExportData, s: &[u8]) -> Out {
-    match target {
-        ExportData::Reexport(import) => out.quoted(lines, b"  import ", import.name(s)),
-        _ => out,
-    }
+fn place(walk: &TrieWalk) -> Option<u64> {
+    let open = walk.left.get(..walk.depth)?;
+    let innermost = open.iter().rposition(|left| 0 < *left)?;
+    walk.places.get(innermost).copied()
 }

@@ -1,145 +1,128 @@
 // Chained fixups: those of one segment.
-use crate::closing::{Ending, List, close, listed};
-use crate::file::{Loaded, load_segment, load_stream};
-use crate::line::{Lines, Out};
-use crate::words::Words;
-use crate::{Host, usage, words};
-use chains::{Segment, SegmentStart, SegmentStep, SegmentWalk};
-use numbers::parts::part;
-use numerals::Numeral;
+use crate::chained::passed;
+use crate::closing::{Ending, Source, close};
+use crate::file::{Wanted, load};
+use crate::line::Lines;
+use crate::usage::Stop;
+use crate::words::{Call, is_input};
+use crate::{Host, closing, usage};
+use chains::{Segment, SegmentWalk};
 use pages::pointer::Fixup;
-use pages::{PageStart, PageStep, PageWalk, Patch};
+use pages::{Due, PageWalk, Patch};
 use refusal::Refusal;
-use std::num::wrapping_sub_u64;
+use runs::Step;
+use std::io::{self, Write};
 
-// The record of a segment; or a refusal, with its place and index; or neither.
+pub(crate) fn list(
+    call: &Call<'_, impl Host>,
+    max: u64,
+    room: &mut [u8],
+    lines: &mut Lines,
+) -> Result<(), Stop> {
+    let [_, file, index, segment, base] = call.all::<5>()?;
+    let at = call.number(index, "index")?;
+    let base = call.number(base, "base")?;
+    if is_input(call.rt, file) && is_input(call.rt, segment) {
+        return Err(call.wrong("only one FILE may be -"));
+    }
+    let n = load(call, file, Wanted::Stream, room)?;
+    let (s, rest) = room.split_at_mut(n);
+    let m = load(call, segment, Wanted::Segment, rest)?;
+    match find(s, at) {
+        Ok(Some(g)) => closing::list(Fixups::start(s, &rest[..m], g, base), max, lines)?,
+        Ok(None) => {
+            return Err(usage::unfit(call.rt, index, "no segment of this index has fixups"));
+        }
+        Err(Refused { why, place, index }) => close(lines, index, Ending::Refused { why, place })?,
+    }
+    Ok(())
+}
+
+// Why there is no record of a segment, with its place and index.
 #[derive(Clone, Copy)]
-enum Found {
-    Record(Segment),
-    Refused(Refusal, u64, u64),
-    Not,
+struct Refused {
+    why: Refusal,
+    place: u64,
+    index: u64,
 }
 
-pub(crate) fn list(rt: &impl Host, w: Words, room: &mut [u8]) {
-    if !w.are(rt, 5, usage::FIXUPS) {
-        return;
-    }
-    let Numeral::Value(index) = words::number(rt, w.at[2], b"index", usage::FIXUPS) else {
-        return;
-    };
-    let Numeral::Value(base) = words::number(rt, w.at[4], b"base", usage::FIXUPS) else {
-        return;
-    };
-    if words::is(rt, w.at[1], b"-") && words::is(rt, w.at[3], b"-") {
-        usage::wrong(rt, b"only one FILE may be -", usage::FIXUPS);
-        return;
-    }
-    let Loaded::Bytes(n) = load_stream(rt, w.at[1], w.raw, room) else {
-        return;
-    };
-    let Loaded::Bytes(m) = load_segment(rt, w.at[3], w.raw, room, n) else {
-        return;
-    };
-    list_of(rt, part(room, 0, n), part(room, n, m), index, base, w);
-}
-
-fn list_of(rt: &impl Host, s: &[u8], d: &[u8], index: u64, base: u64, w: Words) {
-    let mut lines = Lines::start(rt);
-    match find(s, index) {
-        Found::Record(g) => {
-            let list = patches(PageWalk::start(s, g, base), s, d, w.max, &mut lines);
-            close(&mut lines, list);
-        }
-        Found::Refused(e, place, at) => {
-            close(
-                &mut lines,
-                listed(Out::start(), 0, Ending::Refused(e, place, at)),
-            );
-        }
-        Found::Not => usage::unfit(rt, w.at[2], b"no segment of this index has fixups"),
-    }
-}
-
-fn find(s: &[u8], index: u64) -> Found {
-    match SegmentWalk::start(s) {
-        SegmentStart::Begun(w) => find_from(w, s, index),
-        SegmentStart::Refused(e) => Found::Refused(e, 0, 0),
-    }
-}
-
-// No walk has more segments than its count. One whose record is refused is passed over, as the walk does.
-fn find_from(start: SegmentWalk, s: &[u8], index: u64) -> Found {
-    let mut w = start;
-    let mut left = start.count;
-    while 0 < left {
-        match w.step(s) {
-            SegmentStep::Item(next, g) => {
-                if g.index == index {
-                    return Found::Record(g);
-                }
-                w = next;
+// The record of a segment. One whose record is refused is passed over, as the walk does.
+fn find(s: &[u8], index: u64) -> Result<Option<Segment>, Refused> {
+    let mut walk = SegmentWalk::start(s).map_err(|why| Refused {
+        why,
+        place: 0,
+        index: 0,
+    })?;
+    // No walk has more segments than its count.
+    for _ in 0..walk.count {
+        match walk.step(s) {
+            Step::Item(_, g) if g.index == index => return Ok(Some(g)),
+            Step::Item(next, _) => walk = next,
+            Step::End(_) => return Ok(None),
+            Step::Refused(next, why) if passed(next) == index => {
+                let place = next.place as u64;
+                return Err(Refused { why, place, index });
             }
-            SegmentStep::End(_) => return Found::Not,
-            SegmentStep::Refused(next, e) => {
-                if wrapping_sub_u64(next.index, 1) == index {
-                    return Found::Refused(e, next.place as u64, index);
-                }
-                w = next;
-            }
+            Step::Refused(next, _) => walk = next,
         }
-        left -= 1;
     }
-    Found::Not
+    Ok(None)
 }
 
-fn patches(start: PageStart, s: &[u8], d: &[u8], max: u64, lines: &mut Lines) -> List {
-    match start {
-        PageStart::Begun(w) => each(w, s, d, max, lines),
-        PageStart::Refused(e) => listed(Out::start(), 0, Ending::Refused(e, 0, 0)),
+#[derive(Drop)]
+struct Fixups<'s> {
+    walk: PageWalk,
+    s: &'s [u8],
+    d: &'s [u8],
+}
+
+impl<'s> Fixups<'s> {
+    fn start(s: &'s [u8], d: &'s [u8], g: Segment, base: u64) -> Result<Fixups<'s>, Refusal> {
+        let walk = PageWalk::start(s, g, base)?;
+        Ok(Fixups { walk, s, d })
     }
 }
 
-fn each(start: PageWalk, s: &[u8], d: &[u8], max: u64, lines: &mut Lines) -> List {
-    let mut w = start;
-    let mut out = Out::start();
-    let mut count: u64 = 0;
-    while !out.broken {
-        match w.step(s, d) {
-            PageStep::Item(next, x) => {
-                if count == max {
-                    return listed(out, count, Ending::Cut);
-                }
-                count += 1;
-                out = fixup(lines, out, x);
-                w = next;
+impl Source for Fixups<'_> {
+    type Item = Patch;
+
+    fn next(&mut self) -> Result<Patch, Ending> {
+        match self.walk.step(self.s, self.d) {
+            Step::Item(next, x) => {
+                self.walk = next;
+                Ok(x)
             }
-            PageStep::End(_) => return listed(out, count, Ending::End),
-            PageStep::Refused(stood, e) => {
-                return listed(out, count, Ending::Refused(e, place(stood), count));
+            Step::End(_) => Err(Ending::End),
+            Step::Refused(stood, why) => Err(Ending::Refused {
+                why,
+                place: place(stood),
+            }),
+        }
+    }
+
+    fn print(&mut self, x: Patch, _: u64, lines: &mut Lines) -> io::Result<()> {
+        let place = x.place;
+        match x.fixup {
+            Fixup::Rebase(r) => {
+                let target = r.target;
+                writeln!(lines, "rebase  offset {place:#018x}  target {target:#018x}")
+            }
+            Fixup::Bind(b) => {
+                let ordinal = b.ordinal;
+                let addend = b.addend;
+                writeln!(
+                    lines,
+                    "bind    offset {place:#018x}  import {ordinal:>18}  addend {addend:>3}"
+                )
             }
         }
     }
-    listed(out, count, Ending::Cut)
 }
 
 // Where the pointer is that was due, or else the page that was the last to be looked at.
-fn place(w: PageWalk) -> u64 {
-    if w.linked { w.offset } else { w.origin }
-}
-
-fn fixup(lines: &mut Lines, out: Out, x: Patch) -> Out {
-    let how = x.fixup;
-    match how {
-        Fixup::Rebase(r) => {
-            let out = out.hex(lines, b"rebase  offset ", 16, x.place);
-            let out = out.hex(lines, b"  target ", 16, r.target);
-            out.byte(lines, b'\n')
-        }
-        Fixup::Bind(b) => {
-            let out = out.hex(lines, b"bind    offset ", 16, x.place);
-            let out = out.decimal(lines, b"  import ", 18, b.ordinal);
-            let out = out.decimal(lines, b"  addend ", 3, b.addend);
-            out.byte(lines, b'\n')
-        }
+fn place(walk: PageWalk) -> u64 {
+    match walk.due {
+        Due::PointerThenPage | Due::PointerThenChain => walk.offset,
+        Due::NextPage | Due::NextChain => walk.origin,
     }
 }

@@ -14,11 +14,12 @@ mod streams;
 mod usage;
 mod words;
 
-use numerals::Numeral;
-use std::io::{Input, Stderr, Stdout};
+use file::{Wanted, load};
+use line::Lines;
+use std::io::{ErrorKind, Input, Stderr, Stdout};
 use std::rt::{Env, Files};
-use streams::Kind;
-use words::Words;
+use usage::{Command, Stop};
+use words::{Call, Words};
 
 // Room for the bytes of all the files that a command reads, one byte of it spare.
 const ROOM: usize = 7 * 1024 * 1024;
@@ -47,58 +48,40 @@ fn main(rt: HostRuntime) {
         usage::help(&rt);
     } else if words.version {
         usage::version(&rt);
-    } else if words.count == 0 {
+    } else if let [command, ..] = words.kept() {
+        run(&rt, *command, &words, &mut room);
+    } else {
         usage::none(&rt);
-    } else {
-        run(&rt, words, &mut room);
     }
 }
 
-fn run(rt: &impl Host, w: Words, whole: &mut [u8; ROOM]) {
-    let room = &mut whole[..];
-    let row = row_of(rt, w.at[0]);
-    if row == usage::ROWS {
-        usage::no_command(rt, w.at[0]);
-        return;
-    }
-    let Numeral::Value(max) = w.most(rt, row) else {
-        return;
-    };
-    list(rt, row, w.limited(max), room);
-}
-
-// The row of a command; behind them all where it is none.
-fn row_of(rt: &impl Host, command: usize) -> usize {
-    if words::is(rt, command, b"preflight") {
-        usage::PREFLIGHT
-    } else if words::is(rt, command, b"exports") {
-        usage::EXPORTS
-    } else if words::is(rt, command, b"segments") {
-        usage::SEGMENTS
-    } else if words::is(rt, command, b"imports") {
-        usage::IMPORTS
-    } else if words::is(rt, command, b"fixups") {
-        usage::FIXUPS
-    } else {
-        match streams::kind_of(rt, command) {
-            Kind::Unknown => usage::ROWS,
-            _ => usage::STREAM,
+// Where standard output cannot be written to, the reason is said; but where nobody reads on, nothing is. (The room comes
+// as an array: made a slice where it stands, its seven million elements would be counted.)
+fn run(rt: &impl Host, i: usize, words: &Words, room: &mut [u8; ROOM]) {
+    if let Err(Stop::Output(why)) = list(rt, i, words, &mut room[..]) {
+        if why.kind() != ErrorKind::BrokenPipe {
+            usage::fail(rt, b"dump: standard output", why);
         }
     }
 }
 
-fn list(rt: &impl Host, row: usize, w: Words, room: &mut [u8]) {
-    if row == usage::PREFLIGHT {
-        flight::judge(rt, w, room);
-    } else if row == usage::EXPORTS {
-        exports::list(rt, w, room);
-    } else if row == usage::SEGMENTS {
-        chained::list_segments(rt, w, room);
-    } else if row == usage::IMPORTS {
-        chained::list_imports(rt, w, room);
-    } else if row == usage::FIXUPS {
-        fixups::list(rt, w, room);
-    } else {
-        streams::list(rt, w, room);
+fn list(rt: &impl Host, i: usize, words: &Words, room: &mut [u8]) -> Result<(), Stop> {
+    let call = Call::start(rt, i, words)?;
+    let max = call.most()?;
+    let mut lines = Lines::start(rt.output());
+    match call.command {
+        Command::Stream(kind) => streams::list(&call, kind, max, room, &mut lines),
+        Command::Preflight => flight::judge(&call, room, &mut lines),
+        Command::Exports => Ok(exports::list(only(&call, room)?, max, &mut lines)?),
+        Command::Segments => Ok(chained::list_segments(only(&call, room)?, max, &mut lines)?),
+        Command::Imports => Ok(chained::list_imports(only(&call, room)?, max, &mut lines)?),
+        Command::Fixups => fixups::list(&call, max, room, &mut lines),
     }
+}
+
+// The bytes of the file that is the only word behind a command.
+fn only<'r>(call: &Call<'_, impl Host>, room: &'r mut [u8]) -> Result<&'r [u8], Stop> {
+    let [_, file] = call.all::<2>()?;
+    let n = load(call, file, Wanted::Stream, room)?;
+    Ok(&room[..n])
 }

@@ -1,50 +1,85 @@
 // What is said of the program itself, and of a command that is wrong.
-use crate::line::trimmed;
+use crate::file::Wanted;
+use crate::streams::Kind;
 use crate::{Host, words};
-use numbers::parts::part;
-use std::fmt::Write;
-use std::io::{Error, Print};
+use std::io;
+use std::io::{Print, Write};
 
-pub(crate) const ROWS: usize = 6;
-
-// The commands by their rows.
-pub(crate) const STREAM: usize = 0;
-
-pub(crate) const PREFLIGHT: usize = 1;
-
-pub(crate) const EXPORTS: usize = 2;
-
-pub(crate) const SEGMENTS: usize = 3;
-
-pub(crate) const IMPORTS: usize = 4;
-
-pub(crate) const FIXUPS: usize = 5;
+#[derive(Clone, Copy)]
+pub(crate) enum Command {
+    Stream(Kind),
+    Preflight,
+    Exports,
+    Segments,
+    Imports,
+    Fixups,
+}
 
 // How each of them is used.
-const LINES: [[u8; 59]; ROWS] = [
-    *b"rebase|bind|weak|lazy POINTER_SIZE FILE                    ",
-    *b"preflight rebase|bind|weak|lazy POINTER_SIZE FILE [SIZE...]",
-    *b"exports FILE                                               ",
-    *b"segments FILE                                              ",
-    *b"imports FILE                                               ",
-    *b"fixups FILE INDEX SEGMENT_FILE BASE                        ",
-];
+const STREAM: &str = "rebase|bind|weak|lazy POINTER_SIZE FILE";
+
+const PREFLIGHT: &str = "preflight rebase|bind|weak|lazy POINTER_SIZE FILE [SIZE...]";
+
+const EXPORTS: &str = "exports FILE";
+
+const SEGMENTS: &str = "segments FILE";
+
+const IMPORTS: &str = "imports FILE";
+
+const FIXUPS: &str = "fixups FILE INDEX SEGMENT_FILE BASE";
+
+// Why a command is broken off: what is wrong is said already; or standard output cannot be written to.
+#[derive(Clone, Copy)]
+pub(crate) enum Stop {
+    Said,
+    Output(io::Error),
+}
+
+impl From<io::Error> for Stop {
+    fn from(why: io::Error) -> Stop {
+        Stop::Output(why)
+    }
+}
+
+impl Command {
+    pub(crate) fn of(word: &[u8]) -> Option<Command> {
+        match word {
+            b"preflight" => Some(Command::Preflight),
+            b"exports" => Some(Command::Exports),
+            b"segments" => Some(Command::Segments),
+            b"imports" => Some(Command::Imports),
+            b"fixups" => Some(Command::Fixups),
+            _ => Some(Command::Stream(Kind::of(word)?)),
+        }
+    }
+
+    fn usage(self) -> &'static str {
+        match self {
+            Command::Stream(_) => STREAM,
+            Command::Preflight => PREFLIGHT,
+            Command::Exports => EXPORTS,
+            Command::Segments => SEGMENTS,
+            Command::Imports => IMPORTS,
+            Command::Fixups => FIXUPS,
+        }
+    }
+}
 
 pub(crate) fn help(rt: &impl Host) {
     let to = rt.output();
     all(&to);
     put(
         &to,
-        b"Status of ./dump: 0 where the last line is end, cut or pass, 1 where it is refused, and 2 where there is none.\n",
+        "Status of ./dump: 0 where the last line is end, cut or pass, 1 where it is refused, and 2 where there is none.\n",
     );
 }
 
 pub(crate) fn version(rt: &impl Host) {
     let to = rt.output();
-    put(&to, b"dump 4.0.0\n");
+    put(&to, "dump 4.0.0\n");
     put(
         &to,
-        b"Reads little-endian rebase, bind, weak bind and lazy bind streams, exports tries, and chained fixups with pointer formats 2, 3 and 6 and import formats 1, 2 and 3.\n",
+        "Reads little-endian rebase, bind, weak bind and lazy bind streams, exports tries, and chained fixups with pointer formats 2, 3 and 6 and import formats 1, 2 and 3.\n",
     );
 }
 
@@ -53,218 +88,142 @@ pub(crate) fn none(rt: &impl Host) {
     all(&rt.error());
 }
 
-// A write that fails is let go.
-fn put(to: &impl Print, text: &[u8]) {
-    let _ = to.write_all(text);
+// A write that fails is let go. (What is said of an argument is put together piece by piece: its bytes need not be text.)
+fn put(to: &impl Print, text: &str) {
+    let _ = to.write_all(text.as_bytes());
 }
 
 fn all(to: &impl Print) {
-    let mut row = 0;
-    while row < ROWS {
-        used(to, row);
-        row += 1;
+    let mut label = "usage:";
+    for usage in [STREAM, PREFLIGHT, EXPORTS, SEGMENTS, IMPORTS, FIXUPS] {
+        let _ = println!(to; "{label} dump {usage}");
+        label = "      ";
     }
-    more(to);
-}
-
-fn used(to: &impl Print, row: usize) {
-    if row == 0 {
-        put(to, b"usage: dump ");
-    } else {
-        put(to, b"       dump ");
-    }
-    line(to, row);
-}
-
-fn more(to: &impl Print) {
     put(
         to,
-        b"A FILE has the bare bytes of a stream, a trie, chained fixups or a segment. One FILE of a command may be -, which is standard input.\n",
+        "A FILE has the bare bytes of a stream, a trie, chained fixups or a segment. One FILE of a command may be -, which is standard input.\n",
     );
     put(
         to,
-        b"Numbers are decimal, or hexadecimal behind 0x, and below 2^64. With --max N, no more than N items are listed.\n",
+        "Numbers are decimal, or hexadecimal behind 0x, and below 2^64. With --max N, no more than N items are listed.\n",
     );
     put(
         to,
-        b"With --raw, a FILE that begins as a Mach-O file does is read as it is.\n",
+        "With --raw, a FILE that begins as a Mach-O file does is read as it is.\n",
     );
 }
 
-fn line(to: &impl Print, row: usize) {
-    if ROWS <= row {
-        return;
-    }
-    let lines = LINES;
-    let line = lines[row];
-    whole(to, &line);
-}
-
-fn whole(to: &impl Print, line: &[u8; 59]) {
-    let s = &line[..];
-    put(to, part(s, 0, trimmed(s)));
-    put(to, b"\n");
-}
-
-pub(crate) fn say(rt: &impl Host, text: &[u8]) {
+pub(crate) fn say(rt: &impl Host, text: &str) {
     put(&rt.error(), text);
 }
 
-// How one command is used.
-pub(crate) fn of(rt: &impl Host, row: usize) {
-    say(rt, b"usage: dump ");
-    line(&rt.error(), row);
-}
-
-// What is wrong with an argument that a command makes something of.
-pub(crate) fn unfit(rt: &impl Host, i: usize, why: &[u8]) {
-    say(rt, b"dump: ");
-    word(rt, i);
-    say(rt, b": ");
-    say(rt, why);
-    say(rt, b"\n");
+pub(crate) fn say_bytes(rt: &impl Host, text: &[u8]) {
+    let _ = rt.error().write_all(text);
 }
 
 fn word(rt: &impl Host, i: usize) {
-    let mut word = [0; words::LONGEST];
-    let n = words::get(rt, i, &mut word);
-    say(rt, &word[..n]);
+    let mut room = [0; words::LONGEST];
+    if let Some(word) = words::argument(rt, i, &mut room) {
+        say_bytes(rt, word);
+    }
 }
 
-fn quoted(rt: &impl Host, i: usize) {
-    say(rt, b"\"");
+// What is wrong with an argument that a command makes something of.
+pub(crate) fn unfit(rt: &impl Host, i: usize, why: &str) -> Stop {
+    say(rt, "dump: ");
     word(rt, i);
-    say(rt, b"\"");
+    say(rt, ": ");
+    say(rt, why);
+    say(rt, "\n");
+    Stop::Said
 }
 
 // A word that is wrong is named, and how the command is used is said behind it.
-pub(crate) fn no_command(rt: &impl Host, i: usize) {
-    say(rt, b"dump: no command ");
-    quoted(rt, i);
-    say(rt, b"\n");
-    none(rt);
-}
-
-pub(crate) fn no_kind(rt: &impl Host, i: usize) {
-    say(rt, b"dump: no kind of stream ");
-    quoted(rt, i);
-    say(rt, b"\n");
-    of(rt, PREFLIGHT);
-}
-
-pub(crate) fn no_number(rt: &impl Host, what: &[u8], i: usize, row: usize) {
-    say(rt, b"dump: ");
+fn named(rt: &impl Host, what: &str, i: usize, why: &str) {
+    say(rt, "dump: ");
     say(rt, what);
-    say(rt, b" ");
-    quoted(rt, i);
-    say(rt, b" is no number\n");
-    of(rt, row);
+    say(rt, " \"");
+    word(rt, i);
+    say(rt, "\"");
+    say(rt, why);
+    say(rt, "\n");
 }
 
-pub(crate) fn too_many(rt: &impl Host, i: usize, row: usize) {
-    say(rt, b"dump: one word too many, ");
-    quoted(rt, i);
-    say(rt, b"\n");
-    of(rt, row);
+fn used(rt: &impl Host, command: Command) -> Stop {
+    let usage = command.usage();
+    let _ = println!(rt.error(); "usage: dump {usage}");
+    Stop::Said
+}
+
+pub(crate) fn no_command(rt: &impl Host, i: usize) -> Stop {
+    named(rt, "no command", i, "");
+    none(rt);
+    Stop::Said
+}
+
+pub(crate) fn no_kind(rt: &impl Host, i: usize) -> Stop {
+    named(rt, "no kind of stream", i, "");
+    used(rt, Command::Preflight)
+}
+
+pub(crate) fn no_number(rt: &impl Host, what: &str, i: usize, command: Command) -> Stop {
+    named(rt, what, i, " is no number");
+    used(rt, command)
+}
+
+pub(crate) fn too_many(rt: &impl Host, i: usize, command: Command) -> Stop {
+    named(rt, "one word too many,", i, "");
+    used(rt, command)
 }
 
 // What is wrong with a command, but for its words.
-pub(crate) fn wrong(rt: &impl Host, what: &[u8], row: usize) {
-    say(rt, b"dump: ");
+pub(crate) fn wrong(rt: &impl Host, what: &str, command: Command) -> Stop {
+    say(rt, "dump: ");
     say(rt, what);
-    say(rt, b"\n");
-    of(rt, row);
-}
-
-// A file is more than what is read of it: the first half of a sentence, and two second halves.
-pub(crate) fn image(rt: &impl Host, i: usize, fat: bool) {
-    say(rt, b"dump: ");
-    word(rt, i);
-    if fat {
-        say(rt, b" is a fat file of Mach-O files");
-    } else {
-        say(rt, b" is a Mach-O file");
-    }
-    say(rt, b", and this reads the bare bytes of a ");
-}
-
-pub(crate) fn where_streams_are(rt: &impl Host) {
-    say(
-        rt,
-        b"stream: the load command LC_DYLD_INFO_ONLY, LC_DYLD_EXPORTS_TRIE or LC_DYLD_CHAINED_FIXUPS",
-    );
-    where_they_are(rt);
-}
-
-pub(crate) fn where_segments_are(rt: &impl Host) {
-    say(rt, b"segment: the load command LC_SEGMENT_64 or LC_SEGMENT");
-    where_they_are(rt);
-}
-
-fn where_they_are(rt: &impl Host) {
-    say(
-        rt,
-        b" says where they are in the file (with --raw, the file is read as it is)\n",
-    );
+    say(rt, "\n");
+    used(rt, command)
 }
 
 // What the system did not do, and why.
-pub(crate) fn fail(to: &impl Print, what: &[u8], why: Error) {
-    let mut reason = Reason::start();
-    let _ = write!(reason, "{why}");
-    put(to, what);
-    put(to, b": ");
-    put(to, reason.words());
-    put(to, b"\n");
+pub(crate) fn fail(rt: &impl Host, what: &[u8], why: io::Error) -> Stop {
+    let mut room = [0; 256];
+    let mut rest = &mut room[..];
+    let _ = write!(&mut rest, "{why}");
+    let left = rest.len();
+    let text = &room[..256usize.saturating_sub(left)];
+    say_bytes(rt, what);
+    say(rt, ": ");
+    say_bytes(rt, unnumbered(text));
+    say(rt, "\n");
+    Stop::Said
 }
 
-// The text of an error, as much of it as there is room for.
-#[derive(Drop)]
-struct Reason {
-    text: [u8; 256],
-    used: usize,
-}
-
-impl Reason {
-    fn start() -> Reason {
-        Reason {
-            text: [0; 256],
-            used: 0,
-        }
-    }
-
-    fn byte(&mut self, b: u8) {
-        let used = self.used;
-        if used < 256 {
-            self.text[used] = b;
-            self.used = used + 1;
-        }
-    }
-
-    // But for the number that the system has for it, which stands in brackets behind the words.
-    fn words(&self) -> &[u8] {
-        let text = part(&self.text[..], 0, self.used);
-        part(text, 0, numbered(text))
+// But for the number that the system has for an error, which stands in brackets behind the words.
+fn unnumbered(text: &[u8]) -> &[u8] {
+    match text.iter().rposition(|b| *b == b'(') {
+        Some(n) => text[..n].trim_ascii_end(),
+        None => text,
     }
 }
 
-impl Write for Reason {
-    fn write_str(&mut self, s: &str) -> std::fmt::Result {
-        for b in s.as_bytes() {
-            self.byte(*b);
-        }
-        Ok(())
-    }
-}
-
-// The length up to the blank before the last bracket; of a text without one, all of it.
-fn numbered(text: &[u8]) -> usize {
-    let mut n = text.len();
-    while 0 < n {
-        n -= 1;
-        if text[n] == b'(' {
-            return trimmed(part(text, 0, n));
-        }
-    }
-    text.len()
+// A file is more than what is read of it.
+pub(crate) fn image(rt: &impl Host, i: usize, what: &str, wanted: Wanted) -> Stop {
+    say(rt, "dump: ");
+    word(rt, i);
+    say(rt, what);
+    say(rt, ", and this reads the bare bytes of a ");
+    say(
+        rt,
+        match wanted {
+            Wanted::Stream => {
+                "stream: the load command LC_DYLD_INFO_ONLY, LC_DYLD_EXPORTS_TRIE or LC_DYLD_CHAINED_FIXUPS"
+            }
+            Wanted::Segment => "segment: the load command LC_SEGMENT_64 or LC_SEGMENT",
+        },
+    );
+    say(
+        rt,
+        " says where they are in the file (with --raw, the file is read as it is)\n",
+    );
+    Stop::Said
 }

@@ -5,12 +5,11 @@ use mathlib.Core.Bool.{true}
 use mathlib.Core.List.{List}
 use native.Mathlib.Omega.{arith}
 use lib.ListN.{length}
+use Rattle.std.specs.Prelude.{Result, Ok, Err}
 use Rattle.imports.specs.Call.{marked, passed, imported, next, out_of_range, call}
 use Rattle.imports.specs.ChainedImports.{import_at}
 use Rattle.imports.specs.declared.Import.{Import}
 use Rattle.imports.specs.declared.ImportWalk.{ImportWalk}
-use Rattle.imports.specs.declared.record.ImportRead.{ImportRead}
-use Rattle.imports.specs.declared.record.ImportRead.TheVariants.{Found, Refused}
 use Rattle.numbers.proofs.Picks.{by_pick, by_test}
 use Rattle.refusal.specs.Numbers.{number_of}
 use Rattle.refusal.specs.declared.Refusal.{Refusal}
@@ -18,11 +17,11 @@ use Rattle.refusal.specs.declared.Refusal.TheVariants.{StateOutOfRange}
 use Rattle.runs.specs.Runs.{Answer, item, end, refused}
 
 module _ (s : List ℕ) (w : ImportWalk) (Q : Answer ImportWalk Import → Type 0) (ends : Q (end w)) (refuses : (e : Refusal) → Q (refused (number_of e) (marked w)))
-    (gives : (x : Import) (at left : ℕ) → left < w.left → import_at s w.imports_format w.symbols_offset w.place ≡ Found x at → Q (item x (passed at left w))) where
-  by_read : (left : ℕ) → left < w.left → (x : ImportRead) → import_at s w.imports_format w.symbols_offset w.place ≡ x → Q (imported w left x)
+    (gives : (x : Import) (at left : ℕ) → left < w.left → import_at s w.imports_format w.symbols_offset w.place ≡ Ok (x, at) → Q (item x (passed at left w))) where
+  by_read : (left : ℕ) → left < w.left → (x : Result (Import × ℕ) Refusal) → import_at s w.imports_format w.symbols_offset w.place ≡ x → Q (imported w left x)
   unfolding imported
-  by_read left l (Found x at) e = gives x at left l e
-  by_read left l (Refused d) e = refuses d
+  by_read left l (Ok (x, at)) e = gives x at left l e
+  by_read left l (Err d) e = refuses d
 
   by_next : (n : ℕ) → n ≤ w.left → Q (next s w n)
   unfolding next

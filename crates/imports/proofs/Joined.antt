@@ -5,13 +5,13 @@ use mathlib.Core.Path.{◌≡◌, refl, ap, sym, ◌∙◌, subst}
 use mathlib.Core.Bool.{Bool, false, cond}
 use mathlib.Core.List.{List}
 use lib.ListN.{length}
+use Rattle.std.specs.Prelude.{Result, Ok, Err}
 use Rattle.imports.specs.Call.{begin, imported, next, call}
 use Rattle.imports.specs.ChainedImports.{import_at}
 use Rattle.imports.specs.Listing.{then_rest, imports, listing}
 use Rattle.imports.specs.declared.Import.{Import}
 use Rattle.imports.specs.declared.ImportWalk.{ImportWalk}
-use Rattle.imports.specs.declared.record.ImportRead.{ImportRead}
-use Rattle.imports.specs.declared.record.ImportRead.TheVariants.{Found, Refused}
+use Rattle.refusal.specs.declared.Refusal.{Refusal}
 use Rattle.runs.proofs.Walks.{shown, Stays, Starts, walks_ahead, walks_one}
 use Rattle.runs.specs.Runs.{Begin, begun, not_begun, end, Run, fails, Walks}
 use Rattle.imports.proofs.Answers.{by_call}
@@ -38,10 +38,10 @@ module _ (s : List ℕ) where
         rw (none_out w.place w.symbols_offset (length s) g.range)
         (ap (λ (t : Bool). cond t (end w) (next s w w.left)) g.live)
 
-    says_read : (n : ℕ) (x : ImportRead) → then_rest (imports s w.imports_format w.symbols_offset n) x ≡ shown ahead (imported w n x)
+    says_read : (n : ℕ) (x : Result (Import × ℕ) Refusal) → then_rest (imports s w.imports_format w.symbols_offset n) x ≡ shown ahead (imported w n x)
     unfolding then_rest imported
-    says_read n (Found x at) = refl
-    says_read n (Refused e) = refl
+    says_read n (Ok (x, at)) = refl
+    says_read n (Err e) = refl
 
     says_next : (n : ℕ) → imports s w.imports_format w.symbols_offset n w.place ≡ shown ahead (next s w n)
     unfolding imports next

@@ -5,5 +5,4 @@ pub mod Calls
 pub mod Inside
 pub mod Kept
 pub mod Joined
-pub mod Unique
 pub mod Typed

@@ -1,6 +1,6 @@
--- Numbers of which those above a bound are negative, as a machine's signed numbers: for `search`. Assumes nothing.
+-- Numbers of which those above a bound are negative, as a machine's signed numbers. Assumes nothing.
 use Prim.Native.Nat.{ℕ, ◌+◌, ◌-◌, ◌^◌, ◌≤◌, ◌<◌}
-use mathlib.Core.Path.{◌≡◌, sym, ◌∙◌, subst}
+use mathlib.Core.Path.{◌≡◌, sym, subst}
 use mathlib.Core.Bool.{cond}
 use native.Mathlib.Decide.{dec_lt}
 use native.Mathlib.Omega.{arith}
@@ -8,8 +8,7 @@ use borrow.Author.Tests.{lt-ltb, le-ltb}
 use lib.Dec.{ltb}
 use lib.IntN.{ℤ, pos, negsuc, ◌-ℤ◌}
 use mir.Syntax.{w32, w64}
-use mir.Val.{SFits, to_z, of_z}
-use Rattle.numbers.proofs.leb128.Signs.{plus_is, minus_fits, minus_back}
+use mir.Val.{SFits}
 use Rattle.numbers.proofs.leb128.Sleb.{take_away}
 
 module _ (n bound most : ℕ) where
@@ -18,16 +17,6 @@ module _ (n bound most : ℕ) where
 
   below : n ≤ bound → cond (ltb bound n) (pos n -ℤ pos (most + 1)) (pos n) ≡ pos n
   below h = rw (le-ltb bound n h)
-
-  module _ (h : bound < n) (i : n ≤ most) (j : most - bound ≤ 2 ^ 63) where
-    pub minus_fits_above : SFits w64 (negsuc 0 -ℤ to_z w64 (most - n))
-    minus_fits_above = minus_fits (most - n) (omega arith)
-
-    pub minus_above : to_z w64 (of_z w64 (negsuc 0 -ℤ to_z w64 (most - n))) ≡ cond (ltb bound n) (pos n -ℤ pos (most + 1)) (pos n)
-    minus_above = minus_back (most - n) (omega arith) ∙ sym (above h i)
-
-  pub plus_below : n ≤ bound → bound < 2 ^ 63 → to_z w64 n ≡ cond (ltb bound n) (pos n -ℤ pos (most + 1)) (pos n)
-  plus_below h j = plus_is n (omega arith) ∙ sym (below h)
 
   by_sign : (P : ℤ → Type 0) → n ≤ most → (bound < n → P (negsuc (most - n))) → (n ≤ bound → P (pos n)) → P (cond (ltb bound n) (pos n -ℤ pos (most + 1)) (pos n))
   by_sign P i p q =
@@ -43,5 +32,3 @@ module _ (n bound most : ℕ) where
   -- those of an i64
   pub addend_fits : n ≤ most → bound < 2 ^ 63 → most - bound ≤ 2 ^ 63 → SFits w64 (cond (ltb bound n) (pos n -ℤ pos (most + 1)) (pos n))
   addend_fits i j k = by_sign (SFits w64) i (λ h. record { sfits = omega arith }) (λ h. record { sfits = omega arith })
-
-pub ruleset signs = (minus_fits_above, minus_above, plus_below)

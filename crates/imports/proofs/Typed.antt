@@ -34,8 +34,8 @@ use Rattle.imports.proofs.Signs.{library_fits, addend_fits}
 pub record TypedImport (x : Import) : Type 0 where
   pub library : SFits w32 x.library
   pub addend : SFits w64 x.addend
-  pub place : x.place < 2 ^ 64
-  pub length : x.length < 2 ^ 64
+  pub place : x.name.place < 2 ^ 64
+  pub length : x.name.length < 2 ^ 64
 
 record TypedFields (r : ChainedImport) : Type 0 where
   library : SFits w32 r.library
@@ -59,7 +59,7 @@ typed_item s b short w =
       addend64 = λ n a at next e. typed_wide n (addend_fits a (2 ^ 63 - 1) (2 ^ 64 - 1) (omega (arith, field_less 8 s at refl e b)) (omega arith) (omega arith));
     })
     (λ x next. TypedImport x)
-    (λ r next place len t l. record { library = t.library; addend = t.addend; place = omega (arith, short); length = omega (arith, short) })
+    (λ r next name t l. record { library = t.library; addend = t.addend; place = omega (arith, short); length = omega (arith, short) })
     w.imports_format w.symbols_offset w.place)
 
 -- ---- a state

@@ -1,12 +1,11 @@
 -- A start and a call of the walk over imports: what they answer, and the state handed back, for any state and any bytes.
-use Rattle.std.specs.Prelude.{ℕ, zero, suc, Bool, true, false, cond, ◌||◌, List, ltb, length}
+use Rattle.std.specs.Prelude.{ℕ, zero, suc, Bool, true, false, cond, ◌||◌, List, ltb, length, Result, Ok, Err}
 use Rattle.chains.specs.declared.header.Header.{Header}
 use Rattle.imports.specs.ChainedImports.{then_imports, import_at}
 use Rattle.imports.specs.declared.Import.{Import}
 use Rattle.imports.specs.declared.ImportWalk.{ImportWalk}
-use Rattle.imports.specs.declared.record.ImportRead.{ImportRead}
-use Rattle.imports.specs.declared.record.ImportRead.TheVariants.{Found, Refused}
 use Rattle.refusal.specs.Numbers.{number_of}
+use Rattle.refusal.specs.declared.Refusal.{Refusal}
 use Rattle.refusal.specs.declared.Refusal.TheVariants.{StateOutOfRange}
 use Rattle.runs.specs.Runs.{Begin, begun, not_begun, Answer, item, end, refused}
 
@@ -49,9 +48,9 @@ passed next left w =
       ended = w.ended;
     }
 
-unfoldable pub imported : ImportWalk → (left : ℕ) → ImportRead → Answer ImportWalk Import
-imported w left (Found x next) = item x (passed next left w)
-imported w left (Refused e) = refused (number_of e) (marked w)
+unfoldable pub imported : ImportWalk → (left : ℕ) → Result (Import × ℕ) Refusal → Answer ImportWalk Import
+imported w left (Ok (x, next)) = item x (passed next left w)
+imported w left (Err e) = refused (number_of e) (marked w)
 
 unfoldable pub next : List ℕ → ImportWalk → (n : ℕ) → Answer ImportWalk Import
 next s w zero = end w

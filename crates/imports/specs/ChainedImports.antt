@@ -1,16 +1,13 @@
 -- The imports of mach-o/fixup-chains.h: where they can be read, what a record says, by its format, and the import with its name.
-use Rattle.std.specs.Prelude.{ℕ, ◌+◌, ◌-◌, ◌^◌, cond, not, List, ltb, eqb, ℤ, pos, ◌-ℤ◌, length}
+use Rattle.std.specs.Prelude.{ℕ, ◌+◌, ◌-◌, ◌^◌, cond, not, List, ltb, eqb, ℤ, pos, ◌-ℤ◌, length, Result, Ok, Err}
 use Rattle.chains.specs.FixupChains.{bits, header_at, then_header}
 use Rattle.chains.specs.declared.header.Header.{Header}
 use Rattle.imports.specs.declared.Import.{Import}
-use Rattle.imports.specs.declared.record.ImportRead.{ImportRead}
-use Rattle.imports.specs.declared.record.ImportRead.TheVariants as import
 use Rattle.imports.specs.declared.record.ChainedImport.{ChainedImport}
-use Rattle.imports.specs.declared.record.ChainedImportRead.{ChainedImportRead}
-use Rattle.imports.specs.declared.record.ChainedImportRead.TheVariants as read
 use Rattle.numbers.specs.LittleEndian.{field_at}
 use Rattle.numbers.specs.Strings.{string_at}
-use Rattle.numbers.specs.Then.{then_number, then_text}
+use Rattle.numbers.specs.Then.{then}
+use Rattle.numbers.specs.declared.parts.Part.{Part}
 use Rattle.refusal.specs.Numbers.{number_of}
 use Rattle.refusal.specs.declared.Refusal.{Refusal}
 use Rattle.refusal.specs.declared.Refusal.TheVariants.{UnsupportedFormat, FaultyImport}
@@ -55,47 +52,46 @@ wide n addend =
       addend = addend;
     }
 
-abbrev pub no_record : ChainedImportRead
-no_record = read.Refused FaultyImport
+abbrev pub no_record : Result (ChainedImport × ℕ) Refusal
+no_record = Err FaultyImport
 
 -- format 1: the fields alone
-unfoldable pub plain_at : List ℕ → ℕ → ChainedImportRead
-plain_at s at = then_number (field_at 4 s at) no_record (λ n next. read.Found (narrow n (pos 0)) next)
+unfoldable pub plain_at : List ℕ → ℕ → Result (ChainedImport × ℕ) Refusal
+plain_at s at = then (field_at 4 s at) no_record (λ n next. Ok (narrow n (pos 0), next))
 
 -- format 2: the fields, then an int32_t addend
-unfoldable pub addend_at : List ℕ → ℕ → ChainedImportRead
+unfoldable pub addend_at : List ℕ → ℕ → Result (ChainedImport × ℕ) Refusal
 addend_at s at =
-    then_number (field_at 4 s at) no_record
-    (λ n at. then_number (field_at 4 s at) no_record (λ a next. read.Found (narrow n (signed_above (2 ^ 31 - 1) 32 a)) next))
+    then (field_at 4 s at) no_record
+    (λ n at. then (field_at 4 s at) no_record (λ a next. Ok (narrow n (signed_above (2 ^ 31 - 1) 32 a), next)))
 
 -- format 3: the fields, then a uint64_t addend, read as signed
-unfoldable pub addend64_at : List ℕ → ℕ → ChainedImportRead
+unfoldable pub addend64_at : List ℕ → ℕ → Result (ChainedImport × ℕ) Refusal
 addend64_at s at =
-    then_number (field_at 8 s at) no_record
-    (λ n at. then_number (field_at 8 s at) no_record (λ a next. read.Found (wide n (signed_above (2 ^ 63 - 1) 64 a)) next))
+    then (field_at 8 s at) no_record
+    (λ n at. then (field_at 8 s at) no_record (λ a next. Ok (wide n (signed_above (2 ^ 63 - 1) 64 a), next)))
 
 -- the record of a format at a place, and the place behind it
-unfoldable pub record_at : List ℕ → (format at : ℕ) → ChainedImportRead
+unfoldable pub record_at : List ℕ → (format at : ℕ) → Result (ChainedImport × ℕ) Refusal
 record_at s format at =
     cond (eqb format 1) (plain_at s at)  -- DYLD_CHAINED_IMPORT
     (cond (eqb format 2) (addend_at s at)  -- DYLD_CHAINED_IMPORT_ADDEND
     (cond (eqb format 3) (addend64_at s at)  -- DYLD_CHAINED_IMPORT_ADDEND64
-    (read.Refused UnsupportedFormat)))
+    (Err UnsupportedFormat)))
 
 -- ---- an import: a record, and the name at its offset in the symbols
 
-unfoldable pub then_record : {A : Type 0} → ChainedImportRead → (refused : Refusal → A) →
+unfoldable pub then_record : {A : Type 0} → Result (ChainedImport × ℕ) Refusal → (refused : Refusal → A) →
     (ChainedImport → (next : ℕ) → A) → A
-then_record (read.Found r next) refused go = go r next
-then_record (read.Refused e) refused go = refused e
+then_record (Ok (r, next)) refused go = go r next
+then_record (Err e) refused go = refused e
 
-abbrev pub named : ChainedImport → (place len : ℕ) → Import
-named r place len =
-    record { library = r.library; weak = r.weak; addend = r.addend; place = place; length = len }
+abbrev pub named : ChainedImport → (name : Part) → Import
+named r name = record { library = r.library; weak = r.weak; addend = r.addend; name = name }
 
-unfoldable pub import_at : List ℕ → (format symbols at : ℕ) → ImportRead
+unfoldable pub import_at : List ℕ → (format symbols at : ℕ) → Result (Import × ℕ) Refusal
 import_at s format symbols at =
-    then_record (record_at s format at) import.Refused
+    then_record (record_at s format at) Err
     (λ r next.
-    then_text (string_at s (symbols + r.name_offset)) (import.Refused FaultyImport)
-    (λ place len behind. import.Found (named r place len) next))
+    then (string_at s (symbols + r.name_offset)) (Err FaultyImport)
+    (λ name behind. Ok (named r name, next)))

@@ -1,4 +1,3 @@
 pub mod ChainedImports
 pub mod Listing
 pub mod Call
-pub mod Told

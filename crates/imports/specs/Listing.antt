@@ -1,16 +1,15 @@
 -- What chained fixups import: all imports in order, and how that ends.
-use Rattle.std.specs.Prelude.{ℕ, zero, suc, List}
+use Rattle.std.specs.Prelude.{ℕ, zero, suc, List, Result, Ok, Err}
 use Rattle.imports.specs.ChainedImports.{then_imports, import_at}
 use Rattle.imports.specs.declared.Import.{Import}
-use Rattle.imports.specs.declared.record.ImportRead.{ImportRead}
-use Rattle.imports.specs.declared.record.ImportRead.TheVariants.{Found, Refused}
 use Rattle.refusal.specs.Numbers.{number_of}
+use Rattle.refusal.specs.declared.Refusal.{Refusal}
 use Rattle.runs.specs.Runs.{Run, stops, fails, gives}
 
 -- an import that was read, and then the rest, from the place behind it on
-unfoldable pub then_rest : (rest : ℕ → Run Import) → ImportRead → Run Import
-then_rest rest (Found x next) = gives x (rest next)
-then_rest rest (Refused e) = fails (number_of e)
+unfoldable pub then_rest : (rest : ℕ → Run Import) → Result (Import × ℕ) Refusal → Run Import
+then_rest rest (Ok (x, next)) = gives x (rest next)
+then_rest rest (Err e) = fails (number_of e)
 
 -- n imports from a place on
 unfoldable pub imports : List ℕ → (format symbols n at : ℕ) → Run Import

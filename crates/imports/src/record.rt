@@ -1,12 +1,12 @@
 // The records of imports, by their format, and the import with its name.
-ghost use Rattle.std.specs.Prelude.{cond, ◌≡◌, ◌+◌, ◌-◌, ◌^◌, ◌≤◌, ◌<◌, ltb, pos, ◌-ℤ◌, length};
+ghost use Rattle.std.specs.Prelude.{cond, ◌≡◌, ◌+◌, ◌-◌, ◌^◌, ◌≤◌, ◌<◌, ltb, pos, ◌-ℤ◌};
 ghost use Rattle.imports.specs.ChainedImports.{narrow, wide, plain_at, addend_at, addend64_at, record_at, import_at};
 ghost use Rattle.numbers.specs.Strings.{string_at};
 
 use crate::Import;
-use numbers::Number;
 use numbers::little_endian::{read_u32, read_u64};
-use numbers::strings::{Text, read_string};
+use numbers::parts::Part;
+use numbers::strings::read_string;
 use refusal::Refusal;
 
 // What a record says, dyld_chained_import or one with an addend: where in the symbols the name is, the addend,
@@ -19,102 +19,79 @@ pub(crate) struct ChainedImport {
     weak: bool,
 }
 
-// A record and the place behind it.
-#[derive(Clone, Copy)]
-pub(crate) enum ChainedImportRead {
-    Found(ChainedImport, usize),
-    Refused(Refusal),
-}
-
-// An import and the place behind its record.
-#[derive(Clone, Copy)]
-pub(crate) enum ImportRead {
-    Found(Import, usize),
-    Refused(Refusal),
-}
-
-// The import whose record is at a place.
-pub(crate) fn read_import(s: &[u8], format: u64, symbols: usize, at: usize) -> ImportRead
-    requires { symbols ≤ length s.now }
+// The import whose record is at a place, and the place behind the record.
+#[tactic(auto, unfolding(crate::specs::ChainedImports::import_at, crate::specs::ChainedImports::then_record, numbers::specs::Then::then))]
+pub(crate) fn read_import(
+    s: &[u8],
+    format: u64,
+    symbols: usize,
+    at: usize,
+) -> Result<(Import, usize), Refusal>
     ensures { result ≡ import_at s.now format symbols at }
 {
-    match read_record(s, format, at) {
-        ChainedImportRead::Found(record, next) => match read_name(s, symbols, record.name_offset) {
-            Text::Found { start, len, .. } => {
-                let import = Import {
-                    library: record.library,
-                    weak: record.weak,
-                    addend: record.addend,
-                    place: start,
-                    length: len,
-                };
-                ImportRead::Found(import, next)
-            }
-            Text::Fault => ImportRead::Refused(Refusal::FaultyImport),
-        },
-        ChainedImportRead::Refused(e) => ImportRead::Refused(e),
-    }
+    let (record, next) = read_record(s, format, at)?;
+    let (name, _) = read_name(s, symbols, record.name_offset).ok_or(Refusal::FaultyImport)?;
+    let import = Import {
+        library: record.library,
+        weak: record.weak,
+        addend: record.addend,
+        name,
+    };
+    Ok((import, next))
 }
 
-// The name at an offset in the symbols.
-fn read_name(s: &[u8], symbols: usize, offset: u64) -> Text
-    requires { symbols ≤ length s.now }
+// The name at an offset in the symbols, and the place behind it.
+fn read_name(s: &[u8], symbols: usize, offset: u64) -> Option<(Part, usize)>
     ensures { result ≡ string_at s.now (symbols + offset) }
 {
-    if ((s.len() - symbols) as u64) < offset {
-        return Text::Fault;
-    }
-    read_string(s, symbols + offset as usize)
+    read_string(s, symbols.saturating_add(offset as usize))
 }
 
-// The record of a format at a place.
-fn read_record(s: &[u8], format: u64, at: usize) -> ChainedImportRead
+// The record of a format at a place, and the place behind it.
+#[tactic(auto, unfolding(crate::specs::ChainedImports::record_at))]
+fn read_record(s: &[u8], format: u64, at: usize) -> Result<(ChainedImport, usize), Refusal>
     ensures { result ≡ record_at s.now format at }
 {
     match format {
         1 => read_plain(s, at),
         2 => read_addend(s, at),
         3 => read_addend64(s, at),
-        _ => ChainedImportRead::Refused(Refusal::UnsupportedFormat),
+        _ => Err(Refusal::UnsupportedFormat),
     }
 }
 
-fn read_plain(s: &[u8], at: usize) -> ChainedImportRead
+#[tactic(auto, unfolding(crate::specs::ChainedImports::plain_at, numbers::specs::Then::then))]
+fn read_plain(s: &[u8], at: usize) -> Result<(ChainedImport, usize), Refusal>
     ensures { result ≡ plain_at s.now at }
 {
-    let Number::Value(fields, next) = read_u32(s, at) else {
-        return ChainedImportRead::Refused(Refusal::FaultyImport);
-    };
-    ChainedImportRead::Found(narrow(fields, 0), next)
+    let (fields, next) = read_u32(s, at).ok_or(Refusal::FaultyImport)?;
+    Ok((narrow(fields, 0), next))
 }
 
-fn read_addend(s: &[u8], at: usize) -> ChainedImportRead
+#[tactic(auto, unfolding(crate::specs::ChainedImports::addend_at, numbers::specs::Then::then))]
+fn read_addend(s: &[u8], at: usize) -> Result<(ChainedImport, usize), Refusal>
     ensures { result ≡ addend_at s.now at }
 {
-    let Number::Value(fields, behind) = read_u32(s, at) else {
-        return ChainedImportRead::Refused(Refusal::FaultyImport);
-    };
-    let Number::Value(n, next) = read_u32(s, behind) else {
-        return ChainedImportRead::Refused(Refusal::FaultyImport);
-    };
+    let (fields, behind) = read_u32(s, at).ok_or(Refusal::FaultyImport)?;
+    let (n, next) = read_u32(s, behind).ok_or(Refusal::FaultyImport)?;
     let addend = signed(n, 0x7fff_ffff, 0xffff_ffff);
-    ChainedImportRead::Found(narrow(fields, addend), next)
+    Ok((narrow(fields, addend), next))
 }
 
-fn read_addend64(s: &[u8], at: usize) -> ChainedImportRead
+// As `read_addend`, of eight bytes each: a type parameter that brings the reader, the table and the signs would take
+// more lines than both.
+#[tactic(auto, unfolding(crate::specs::ChainedImports::addend64_at, numbers::specs::Then::then))]
+fn read_addend64(s: &[u8], at: usize) -> Result<(ChainedImport, usize), Refusal>
     ensures { result ≡ addend64_at s.now at }
 {
-    let Number::Value(fields, behind) = read_u64(s, at) else {
-        return ChainedImportRead::Refused(Refusal::FaultyImport);
-    };
-    let Number::Value(n, next) = read_u64(s, behind) else {
-        return ChainedImportRead::Refused(Refusal::FaultyImport);
-    };
+    let (fields, behind) = read_u64(s, at).ok_or(Refusal::FaultyImport)?;
+    let (n, next) = read_u64(s, behind).ok_or(Refusal::FaultyImport)?;
     let addend = signed(n, 0x7fff_ffff_ffff_ffff, 0xffff_ffff_ffff_ffff);
-    ChainedImportRead::Found(wide(fields, addend), next)
+    Ok((wide(fields, addend), next))
 }
 
-// The fields of a record of four bytes.
+// The fields of a record of four bytes. Here and in `wide` the code is two tables, as the header has two structs:
+// one function would take four places and widths, and be no plainer.
 fn narrow(n: u64, addend: i64) -> ChainedImport
     ensures { result ≡ narrow n addend }
 {

@@ -1,6 +1,6 @@
 -- A lap: calls of a walk in a row, each from the state that the last one handed back, up to the first that yields no item; and the sum of one
 -- number of each item, modulo 2^64.
-use Rattle.std.specs.Prelude.{ℕ, zero, suc, ◌+◌, ◌-◌, ◌%◌, ◌^◌, List}
+use Rattle.std.specs.Prelude.{◌≡◌, ℕ, zero, suc, ◌+◌, ◌-◌, ◌%◌, ◌^◌, List}
 use Rattle.bind.specs.Binds.{plainly, binds}
 use Rattle.bind.specs.declared.Bind.{Bind}
 use Rattle.chains.specs.Call as segments
@@ -12,6 +12,8 @@ use Rattle.pages.specs.declared.Patch.{Patch}
 use Rattle.rebase.specs.Rebases.{unset, rebases}
 use Rattle.rebase.specs.declared.Rebase.{Rebase}
 use Rattle.runs.specs.Runs.{Begin, begun, not_begun, Answer, item, end, refused}
+use Rattle.runs.specs.Told.{told}
+use Rattle.runs.specs.declared.Step.{Step}
 use Rattle.trie.specs.Call as trie
 use Rattle.trie.specs.declared.TrieWalk.{TrieWalk}
 
@@ -27,6 +29,17 @@ turn value rest sum (refused e w) = sum
 unfoldable pub lap : {W X : Type 0} → (value : X → ℕ) (call : W → Answer W X) (n sum : ℕ) → W → ℕ
 lap value call zero sum w = sum
 lap value call (suc n) sum w = turn value (lap value call n) sum (call w)
+
+-- a step that may answer so is that call's; and a value that may be so is that number
+abbrev pub IsCall : {W X : Type 0} → (step : W → Step W X → Type 0) (call : W → Answer W X) → Type 0
+IsCall {W} {X} step call = (w : W) (a : Step W X) → step w a → told a ≡ call w
+
+abbrev pub IsNumber : {X : Type 0} → (value : X → ℕ → Type 0) (number : X → ℕ) → Type 0
+IsNumber {X} value number = (x : X) (n : ℕ) → value x n → n ≡ number x
+
+-- the sum of a lap, whatever call and number they are
+abbrev pub IsLap : {W X : Type 0} → (step : W → Step W X → Type 0) (value : X → ℕ → Type 0) (limit : ℕ) (start : W) (sum : ℕ) → Type 0
+IsLap {W} {X} step value limit start sum = (call : W → Answer W X) (number : X → ℕ) → IsCall step call → IsNumber value number → sum ≡ lap number call limit 0 start
 
 -- from a start on; 0 where it is refused
 abbrev pub from_start : {W : Type 0} → (W → ℕ) → Begin W → ℕ

@@ -3,7 +3,6 @@ ghost use Rattle.std.specs.Prelude.{◌≡◌};
 ghost use Rattle.trie.specs.Call.{at_start};
 ghost use Rattle.laps.specs.Laps.{trie_lap};
 
-use std::num::wrapping_add_u64;
 use trie::{TrieAnswer, TrieWalk};
 
 // By so many calls at most, each with the largest limit of nodes. The names are put into the buffer.
@@ -12,21 +11,14 @@ pub extern "C" fn laps_trie(trie: &[u8], name: &mut [u8], limit: u64) -> u64
     ensures { (result, name.new) ≡ trie_lap trie.now limit 0 (at_start 256) name.old }
 {
     let mut w = TrieWalk::start();
-    let mut left = limit;
     let mut sum: u64 = 0;
-    while 0 < left {
+    for _ in 0..limit {
         let told = w.step(trie, name, u64::MAX);
-        let answer = told.answer;
+        let TrieAnswer::Export { length, .. } = told.answer else {
+            return sum;
+        };
+        sum = sum.wrapping_add(length);
         w = told.walk;
-        match answer {
-            TrieAnswer::More => return sum,
-            TrieAnswer::Export { length, .. } => {
-                sum = wrapping_add_u64(sum, length);
-                left -= 1;
-            }
-            TrieAnswer::End => return sum,
-            TrieAnswer::Refused(_) => return sum,
-        }
     }
     sum
 }

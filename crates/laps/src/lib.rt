@@ -4,4 +4,5 @@
 
 mod chained;
 mod exports;
+mod lap;
 mod streams;

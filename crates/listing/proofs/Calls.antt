@@ -12,10 +12,11 @@ use Rattle.cursor.specs.Cursor.{is_pointer_size, at_start, behind_place, in_rang
 use Rattle.cursor.specs.declared.Cursor.{Cursor}
 use Rattle.cursor.specs.declared.Standing.{Standing}
 use Rattle.cursor.specs.declared.Standing.TheVariants as standing
-use Rattle.listing.specs.Call.{State, called, call}
+use Rattle.listing.specs.Call.{called, call}
+use Rattle.listing.specs.declared.Walk.{Walk}
 use Rattle.listing.specs.Machine.{Machine}
 
-pub call_by : (M : Machine) (s : List ℕ) (w : State M.Reg) {x : Standing} → standing_of w.cursor (length s) ≡ x →
+pub call_by : {Op Reg Item : Type 0} (M : Machine Op Reg Item) (s : List ℕ) (w : Walk Reg) {x : Standing} → standing_of w.cursor (length s) ≡ x →
     call M s w ≡ called M w s x
 unfolding call
 call_by M s w e = ap (called M w s) e

@@ -11,3 +11,4 @@ pub mod Resumed
 pub mod Loops
 pub mod Starts
 pub mod Typed
+pub mod Unique

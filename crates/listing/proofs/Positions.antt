@@ -1,8 +1,7 @@
 -- Every entry and every refusal of a listing has the position of its operation. Assumes nothing.
+use Rattle.std.specs.Prelude.{Option, None, Some}
 use Prim.Native.Nat.{ℕ, zero, suc}
 use Rattle.cursor.specs.Motion.{turn_of}
-use Rattle.cursor.specs.declared.Lack.{Lack}
-use Rattle.cursor.specs.declared.Lack.TheVariants.{Nothing, Lacks}
 use Rattle.cursor.specs.declared.Turn.{Turn}
 use Rattle.cursor.specs.declared.Turn.TheVariants.{On, Anew, Due, End, Refused}
 use Rattle.listing.specs.Listing.{Listing, ends, refuses, lists, places, repeated, listed, listing_of}
@@ -19,23 +18,23 @@ pub data Along {Op Item : Type 0} : Stream Op → Listing Item → Type 0 where
       Along (one position op next rest) l → Along (one position op next rest) (lists position index x l)
   behind : {position next : ℕ} {op : Op} {rest : Stream Op} {l : Listing Item} → Along rest l → Along (one position op next rest) l
 
-module _ (M : Machine) (p : ℕ) (op : M.Op) (next : ℕ) (xs : Stream M.Op) where
+module _ {Op Reg Item : Type 0} (M : Machine Op Reg Item) (p : ℕ) (op : Op) (next : ℕ) (xs : Stream Op) where
   -- of the operation at p, and those behind it
-  abbrev Here : Listing M.Item → Type 0
+  abbrev Here : Listing Item → Type 0
   Here = Along (one p op next xs)
 
-  module _ (g : M.Reg) (o : ℕ) where
-    places_at : (a i n : ℕ) {l : Listing M.Item} → Here l → Here (places M p g o a i n l)
+  module _ (g : Reg) (o : ℕ) where
+    places_at : (a i n : ℕ) {l : Listing Item} → Here l → Here (places M p g o a i n l)
     unfolding places
     places_at a i zero h = h
     places_at a i (suc n) h = at_entry (places_at a (suc i) n h)
 
-    repeated_at : (a n : ℕ) {l : Listing M.Item} → Here l → (lack : Lack) → Here (repeated M p g o a n l lack)
+    repeated_at : (a n : ℕ) {l : Listing Item} → Here l → (lack : Option Refusal) → Here (repeated M p g o a n l lack)
     unfolding repeated
-    repeated_at a n h Nothing = places_at a 0 n h
-    repeated_at a n h (Lacks e) = at_refusal_lem
+    repeated_at a n h None = places_at a 0 n h
+    repeated_at a n h (Some e) = at_refusal_lem
 
-    turn_at : (k : ℕ) {rest : M.Reg → ℕ → Listing M.Item} → ((h : M.Reg) (f : ℕ) → Along xs (rest h f)) → (t : Turn) → Here (listed M p k g o rest t)
+    turn_at : (k : ℕ) {rest : Reg → ℕ → Listing Item} → ((h : Reg) (f : ℕ) → Along xs (rest h f)) → (t : Turn) → Here (listed M p k g o rest t)
     unfolding listed
     turn_at k h (On to) = behind (h g to)
     turn_at k h Anew = behind (h g 0)
@@ -43,8 +42,8 @@ module _ (M : Machine) (p : ℕ) (op : M.Op) (next : ℕ) (xs : Stream M.Op) whe
     turn_at k h End = at_end_lem
     turn_at k h (Refused e) = at_refusal_lem
 
-module _ (M : Machine) (size : ℕ) where
-  pub listed_at : (xs : Stream M.Op) (k : ℕ) (g : M.Reg) (o : ℕ) → Along xs (listing_of M size xs k g o)
+module _ {Op Reg Item : Type 0} (M : Machine Op Reg Item) (size : ℕ) where
+  pub listed_at : (xs : Stream Op) (k : ℕ) (g : Reg) (o : ℕ) → Along xs (listing_of M size xs k g o)
   unfolding listing_of
   listed_at out k g o = at_end_lem
   listed_at (bad e p) k g o = at_bad

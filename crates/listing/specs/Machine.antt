@@ -1,15 +1,12 @@
 -- A kind of opcode stream: its table of opcodes, what each operation does, what a place gives, and where that lies. The registers are what
 -- a walk keeps beside its cursor: what operations have set but for the offset, and what kind of walk it is.
-use Rattle.std.specs.Prelude.{ℕ, List}
-use Rattle.cursor.specs.declared.Lack.{Lack}
+use Rattle.std.specs.Prelude.{ℕ, List, Option}
 use Rattle.cursor.specs.declared.Motion.{Motion}
+use Rattle.listing.specs.declared.Effect.{Effect}
 use Rattle.operations.specs.Table.{Row}
+use Rattle.refusal.specs.declared.Refusal.{Refusal}
 
 -- what an operation does: the registers are these from now on, and the place moves so
-pub record Effect (Reg : Type 0) : Type 0 where
-  pub registers : Reg
-  pub motion : Motion
-
 infix 20 ◌and◌
 abbrev pub ◌and◌ : {Reg : Type 0} → Reg → Motion → Effect Reg
 g and m = record { registers = g; motion = m }
@@ -20,12 +17,9 @@ pub record Place : Type 0 where
   pub offset : ℕ
   pub kind : ℕ
 
-pub record Machine : Type 1 where
-  pub Op : Type 0
-  pub Reg : Type 0
-  pub Item : Type 0
+pub record Machine (Op Reg Item : Type 0) : Type 0 where
   pub table : (imm : ℕ) → List (Row Op)
   pub effect : (size : ℕ) → Op → Reg → Effect Reg
-  pub lack : Reg → Lack  -- of a place that is due
+  pub lack : Reg → Option Refusal  -- of a place that is due
   pub item : Reg → (offset : ℕ) → Item
   pub place : Item → Place

@@ -15,7 +15,7 @@ pub record Exported : Type 0 where
 
 abbrev pub target_told : ExportData → Target
 target_told (Regular address) = regular address
-target_told (Reexport import) = reexport import.ordinal import.place import.length
+target_told (Reexport import) = reexport import.ordinal import.name.place import.name.length
 target_told (StubAndResolver stub resolver) = stub_and_resolver stub resolver
 
 abbrev pub export_told : Export → Exported

@@ -2,16 +2,12 @@
 -- whole subtree is listed: where a node is listed, the open ones are its ancestors. Of one child, in this order: its edge and its offset
 -- are read (15); then there is a choice; a child that is entered is not at the offset of an open node (16), its node is read (15), and
 -- there is room for one more open node (17).
-use Rattle.std.specs.Prelude.{ℕ, zero, suc, ◌+◌, cond, List, [], ◌∷◌, ◌++◌, ltb, length}
-use Rattle.nodes.specs.Child.{then_node, is_one_of, entered_at}
-use Rattle.nodes.specs.ExportsTrie.{node_at, edge_at}
-use Rattle.nodes.specs.declared.child.Child.{Child}
-use Rattle.nodes.specs.declared.child.Child.TheVariants.{Found, Refused}
+use Rattle.std.specs.Prelude.{ℕ, zero, suc, ◌+◌, cond, List, [], ◌∷◌, ◌++◌, ltb, length, Option, Some, None, Ok, Err}
+use Rattle.nodes.specs.Child.{Child, is_one_of, entered_at}
+use Rattle.nodes.specs.ExportsTrie.{then_read, node_at, edge_at}
+use Rattle.nodes.specs.declared.export.Export.{Export}
 use Rattle.nodes.specs.declared.node.Edge.{Edge}
-use Rattle.nodes.specs.declared.node.EdgeRead.{EdgeRead}
-use Rattle.nodes.specs.declared.node.EdgeRead.TheVariants as edge
 use Rattle.nodes.specs.declared.node.Node.{Node}
-use Rattle.nodes.specs.declared.node.Terminal.{Terminal}
 use Rattle.numbers.specs.Parts.{part_of}
 use Rattle.refusal.specs.Numbers.{number_of}
 use Rattle.refusal.specs.declared.Refusal.TheVariants.{FaultyNode, TooManyOpenNodes, NameTooLong}
@@ -21,9 +17,9 @@ use Rattle.runs.specs.Runs.{Run, stops, fails, gives, ◌then◌}
 pub record Visit : Type 0 where
   pub name : List ℕ
   pub offset : ℕ
-  pub terminal : Terminal
+  pub terminal : Option Export
 
-abbrev pub visit : List ℕ → ℕ → Terminal → Visit
+abbrev pub visit : List ℕ → ℕ → Option Export → Visit
 visit name offset terminal = record { name = name; offset = offset; terminal = terminal }
 
 -- ---- by a choice
@@ -40,14 +36,14 @@ Choice Item = (name : List ℕ) → Edge → (enters passes : Run Item) → Run 
 module _ {Item : Type 0} (s : List ℕ) where
   -- a child that is entered; `later` lists the children behind it, from their place on
   unfoldable pub entered : Below Item → (later : ℕ → Run Item) (ancestors name : List ℕ) → Child → Run Item
-  entered below later ancestors name (Refused e) = fails (number_of e)
-  entered below later ancestors name (Found e n) =
-      below ancestors (name ++ part_of s e.place e.length) e.offset n then later e.next
+  entered below later ancestors name (Err e) = fails (number_of e)
+  entered below later ancestors name (Ok (e, n)) =
+      below ancestors (name ++ part_of s e.name.place e.name.length) e.offset n then later e.next
 
   module _ (choice : Choice Item) where
-    unfoldable pub child_by : Below Item → (later : ℕ → Run Item) (ancestors name : List ℕ) → EdgeRead → Run Item
-    child_by below later ancestors name edge.Fault = fails (number_of FaultyNode)
-    child_by below later ancestors name (edge.Found e) =
+    unfoldable pub child_by : Below Item → (later : ℕ → Run Item) (ancestors name : List ℕ) → Option Edge → Run Item
+    child_by below later ancestors name None = fails (number_of FaultyNode)
+    child_by below later ancestors name (Some e) =
         choice name e (entered below later ancestors name (entered_at s (is_one_of e.offset ancestors) e)) (later e.next)
 
     -- n children, the first edge at a place
@@ -67,12 +63,12 @@ module _ {Item : Type 0} (s : List ℕ) where
 
       -- from the root, where k nodes may be open at once
       unfoldable pub listing_by : (k : ℕ) → Run Item
-      listing_by k = then_node (node_at s 0) (fails (number_of FaultyNode)) (λ n. subtree_by k [] [] 0 n)
+      listing_by k = then_read (node_at s 0) (fails (number_of FaultyNode)) (λ n. subtree_by k [] [] 0 n)
 
 -- ---- what a trie lists: every child is entered whose name is no longer than the room (18)
 
 abbrev pub if_room : (room : ℕ) → Choice Visit
-if_room room name e enters passes = cond (ltb room (length name + e.length)) (fails (number_of NameTooLong)) enters
+if_room room name e enters passes = cond (ltb room (length name + e.name.length)) (fails (number_of NameTooLong)) enters
 
 module _ (s : List ℕ) (room : ℕ) where
   abbrev pub children : Below Visit → (ancestors name : List ℕ) (n place : ℕ) → Run Visit

@@ -1,9 +1,8 @@
 -- What a listing says: the exports with their names, how many nodes are visited, and how it ends.
-use Rattle.std.specs.Prelude.{ℕ, ◌+◌, List, [], ◌∷◌}
+use Rattle.std.specs.Prelude.{ℕ, ◌+◌, List, [], ◌∷◌, Option, Some, None}
 use Rattle.nodes.specs.Exported.{Exported, export_told}
 use Rattle.nodes.specs.Listing.{Visit}
-use Rattle.nodes.specs.declared.node.Terminal.{Terminal}
-use Rattle.nodes.specs.declared.node.Terminal.TheVariants as terminal
+use Rattle.nodes.specs.declared.export.Export.{Export}
 use Rattle.runs.specs.Runs.{Run, stops, fails, gives}
 
 -- an export with its name
@@ -18,9 +17,9 @@ pub data Ending : Type 0 where
   at_end : Ending
   at_refusal : (number : ℕ) → Ending
 
-abbrev pub with_symbol : List ℕ → Terminal → List Symbol → List Symbol
-with_symbol name terminal.NoExport symbols = symbols
-with_symbol name (terminal.Export x) symbols = symbol name (export_told x) ∷ symbols
+abbrev pub with_symbol : List ℕ → Option Export → List Symbol → List Symbol
+with_symbol name None symbols = symbols
+with_symbol name (Some x) symbols = symbol name (export_told x) ∷ symbols
 
 unfoldable pub exports_in : Run Visit → List Symbol
 exports_in stops = []

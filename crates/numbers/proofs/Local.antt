@@ -17,13 +17,8 @@ use Rattle.numbers.specs.Parts.{part_of}
 use Rattle.numbers.specs.Passed.{behind}
 use Rattle.numbers.specs.Spans.{Span, span, unended, in_front, span_to}
 use Rattle.numbers.specs.Strings.{is_nul, string_of, string_at}
-use Rattle.numbers.specs.declared.Number.TheVariants as number
-use Rattle.numbers.specs.declared.leb128.Signed.{Signed}
-use Rattle.numbers.specs.declared.leb128.Signed.TheVariants as signed
-use Rattle.numbers.specs.declared.leb128.Unsigned.{Unsigned}
-use Rattle.numbers.specs.declared.leb128.Unsigned.TheVariants as unsigned
-use Rattle.numbers.specs.declared.strings.Text.{Text}
-use Rattle.numbers.specs.declared.strings.Text.TheVariants as string
+use Rattle.std.specs.Prelude.{Option, Some, None}
+use Rattle.numbers.specs.declared.parts.Part.{Part}
 use Rattle.numbers.proofs.Picks.{by_pick}
 use Rattle.numbers.proofs.Spans.{behind_none, goes_before, is_span, length_snoc}
 
@@ -192,19 +187,19 @@ module _ {A : Type 0} (ends : ℕ → Bool) (of : Span → A) (s : List ℕ) (at
 -- ---- LEB128: a number is decided by its bytes
 
 module _ (s : List ℕ) (at : ℕ) where
-  abbrev IfUleb : Unsigned → Type 0
-  IfUleb (unsigned.Value v next) = Decided (λ r. uleb_at r at) s next
-  IfUleb unsigned.Fault = Unit {0}
+  abbrev IfUleb : Option (ℕ × ℕ) → Type 0
+  IfUleb (Some (v, next)) = Decided (λ r. uleb_at r at) s next
+  IfUleb None = Unit {0}
 
-  pub uleb_local : {v next : ℕ} → uleb_at s at ≡ unsigned.Value v next → Decided (λ r. uleb_at r at) s next
+  pub uleb_local : {v next : ℕ} → uleb_at s at ≡ Some (v, next) → Decided (λ r. uleb_at r at) s next
   unfolding uleb_at
   uleb_local e = subst IfUleb e (by_span is_last (uleb_of at) s at IfUleb (λ bs d. by_pick IfUleb (ltb (tenth bs) 2) _ _ d tt) tt)
 
-  abbrev IfSleb : Signed → Type 0
-  IfSleb (signed.Value v next) = Decided (λ r. sleb_at r at) s next
-  IfSleb signed.Fault = Unit {0}
+  abbrev IfSleb : Option (ℤ × ℕ) → Type 0
+  IfSleb (Some (v, next)) = Decided (λ r. sleb_at r at) s next
+  IfSleb None = Unit {0}
 
-  pub sleb_local : {v : ℤ} {next : ℕ} → sleb_at s at ≡ signed.Value v next → Decided (λ r. sleb_at r at) s next
+  pub sleb_local : {v : ℤ} {next : ℕ} → sleb_at s at ≡ Some (v, next) → Decided (λ r. sleb_at r at) s next
   unfolding sleb_at
   sleb_local e =
       subst IfSleb e
@@ -260,11 +255,11 @@ module _ (s : List ℕ) (at : ℕ) (h : at + 10 ≤ length s) where
 -- ---- strings: one is decided by its bytes and its NUL. (Where there is no NUL, one may follow.)
 
 module _ (s : List ℕ) (at : ℕ) where
-  abbrev IfString : Text → Type 0
-  IfString (string.Found start len next) = Decided (λ r. string_at r at) s next
-  IfString string.Fault = Unit {0}
+  abbrev IfString : Option (Part × ℕ) → Type 0
+  IfString (Some (part, next)) = Decided (λ r. string_at r at) s next
+  IfString None = Unit {0}
 
-  pub string_local : {start len next : ℕ} → string_at s at ≡ string.Found start len next → Decided (λ r. string_at r at) s next
+  pub string_local : {part : Part} {next : ℕ} → string_at s at ≡ Some (part, next) → Decided (λ r. string_at r at) s next
   unfolding string_at
   string_local e = subst IfString e (by_span is_nul (string_of at) s at IfString (λ bs d. d) tt)
 
@@ -274,8 +269,8 @@ module _ (s : List ℕ) (at n : ℕ) (h : at + n ≤ length s) where
   pub field_local : Decided (λ r. field_at n r at) s (at + n)
   unfolding field_at little_endian
   field_local =
-      decides_then (λ r t. cond t (number.Value (from_digits 256 (take n (drop at r))) (at + n)) number.Fault) (room_local s at n h)
-      (decides (bytes_local s at n h) (λ l. cond (leb (at + n) (length s)) (number.Value (from_digits 256 l) (at + n)) number.Fault))
+      decides_then (λ r t. cond t (Some (from_digits 256 (take n (drop at r)), at + n)) None) (room_local s at n h)
+      (decides (bytes_local s at n h) (λ l. cond (leb (at + n) (length s)) (Some (from_digits 256 l, at + n)) None))
 
   pub part_local : Decided (λ r. part_of r at n) s (at + n)
   unfolding part_of

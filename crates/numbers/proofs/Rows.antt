@@ -9,11 +9,8 @@ use native.Mathlib.Omega.{arith}
 use borrow.Author.Tests.{leb-true, leb-false, lt-leb, lt-ltb, le-ltb}
 use lib.Dec.{leb, ltb}
 use lib.ListN.{length}
-use mir.Syntax.{w16}
-use mir.Val.{Fits}
 use Rattle.numbers.specs.LittleEndian.{little_endian, field_at}
-use Rattle.numbers.specs.declared.Number.{Number}
-use Rattle.numbers.specs.declared.Number.TheVariants.{Value, Fault}
+use Rattle.std.specs.Prelude.{Option, Some, None}
 use Rattle.numbers.proofs.Picks.{by_test}
 use Rattle.numbers.proofs.little_endian.Fields.{Bytes, field_below}
 
@@ -24,18 +21,18 @@ record Field (n : ℕ) (s : List ℕ) (at value next : ℕ) : Type 0 where
   is : value ≡ little_endian n s at
   ends : next ≡ at + n
 
-abbrev IfField : (n : ℕ) → List ℕ → (at : ℕ) → Number → Type 0
-IfField n s at (Value v next) = Field n s at v next
-IfField n s at Fault = length s < at + n
+abbrev IfField : (n : ℕ) → List ℕ → (at : ℕ) → Option (ℕ × ℕ) → Type 0
+IfField n s at (Some (v, next)) = Field n s at v next
+IfField n s at None = length s < at + n
 
 module _ (n : ℕ) (s : List ℕ) (at : ℕ) where
-  field : {r q : Number} → r ≡ field_at n s at → r ≡ q → IfField n s at q
+  field : {r q : Option (ℕ × ℕ)} → r ≡ field_at n s at → r ≡ q → IfField n s at q
   unfolding field_at
   field e f =
       subst (IfField n s at) (sym e ∙ f)
       (by_test (IfField n s at) (leb (at + n) (length s)) _ _ (λ t. record { fits = leb-true (at + n) (length s) t; is = refl; ends = refl }) (leb-false (at + n) (length s)))
 
-  module _ {r : Number} {v next : ℕ} (e : r ≡ field_at n s at) (f : r ≡ Value v next) where
+  module _ {r : Option (ℕ × ℕ)} {v next : ℕ} (e : r ≡ field_at n s at) (f : r ≡ Some (v, next)) where
     pub field_inside : next ≤ length s
     field_inside = let d = field e f in omega (arith, d.fits, d.ends)
 
@@ -48,18 +45,10 @@ module _ (n : ℕ) (s : List ℕ) (at : ℕ) where
     pub field_less : Bytes s → v < 256 ^ n
     field_less h = rw field_value (field_below s n at h)
 
-  -- what fits is no fault
-  pub field_there : {r : Number} → r ≡ field_at n s at → r ≡ Fault → at + n ≤ length s → {v : ℕ} → v ≡ little_endian n s at
-  field_there e f h = absurd (omega (arith, field e f))
-
   -- what does not fit is one
-  pub field_out : length s < at + n → field_at n s at ≡ Fault
+  pub field_out : length s < at + n → field_at n s at ≡ None
   unfolding field_at
   field_out h = rw (lt-leb (at + n) (length s) h)
-
--- a field of two bytes, as a u16
-pub field_u16 : (s : List ℕ) (at : ℕ) {v : ℕ} → v ≡ little_endian 2 s at → Bytes s → Fits w16 v
-field_u16 s at e h = record { fits = rw e (field_below s 2 at h) }
 
 -- ---- a row of n fields of a width, from a place on
 

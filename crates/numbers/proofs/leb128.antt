@@ -1,6 +1,5 @@
 pub mod Chunks
 pub mod Gathering
-pub mod Signs
 pub mod Sleb
 pub mod Uleb
 pub mod Views

@@ -3,33 +3,21 @@ ghost use Rattle.std.specs.Prelude.{◌≡◌, ◌<◌, ◌^◌, pos, negsuc};
 ghost use Rattle.numbers.specs.Gathered.{gathered_at};
 ghost use Rattle.numbers.specs.Leb128.{uleb_at, sleb_at};
 
-// An unsigned number and the place behind it.
-#[derive(Clone, Copy)]
-pub enum Unsigned {
-    Value(u64, usize),
-    Fault,
-}
-
-// A signed number and the place behind it.
-#[derive(Clone, Copy)]
-pub enum Signed {
-    Value(i64, usize),
-    Fault,
-}
-
-// The unsigned number at a place. Most have one byte, and nearly all of the others two.
-pub fn read_uleb(s: &[u8], at: usize) -> Unsigned
+// The unsigned number at a place, and the place behind it. Most have one byte, and nearly all of the others two.
+#[tactic(auto, using(crate::proofs::leb128::Uleb::short_laws))]
+pub fn read_uleb(s: &[u8], at: usize) -> Option<(u64, usize)>
     ensures { result ≡ uleb_at s.now at }
 {
     if at < s.len() {
         let first = s[at];
         if first < 128 {
-            return Unsigned::Value(first as u64, at + 1);
+            return Some((u64::from(first), at + 1));
         }
         if at + 1 < s.len() {
             let second = s[at + 1];
             if second < 128 {
-                return Unsigned::Value(((first % 128) as u64) + (second as u64) * 128, at + 2);
+                let value = u64::from(first % 128) + u64::from(second) * 128;
+                return Some((value, at + 2));
             }
         }
     }
@@ -37,32 +25,33 @@ pub fn read_uleb(s: &[u8], at: usize) -> Unsigned
 }
 
 // The unsigned number at a place, of any length.
-fn read_long(s: &[u8], at: usize) -> Unsigned
+#[tactic(auto, using(crate::proofs::leb128::Uleb::uleb_laws))]
+fn read_long(s: &[u8], at: usize) -> Option<(u64, usize)>
     ensures { result ≡ uleb_at s.now at }
 {
-    match gather(s, at) {
+    let bytes = gather(s, at)?;
+    match bytes {
         Gathered::Few {
             low,
             scale,
             last,
             next,
-        } => Unsigned::Value(low + (last as u64) * scale, next),
+        } => Some((low + u64::from(last) * scale, next)),
         Gathered::Ten { low, last, next } => {
             if last < 2 {
-                Unsigned::Value(low + (last as u64) * TENTH, next)
-            } else {
-                Unsigned::Fault
+                return Some((low + u64::from(last) * TENTH, next));
             }
+            None
         }
-        Gathered::Cut => Unsigned::Fault,
     }
 }
 
-// The signed number at a place.
-pub fn read_sleb(s: &[u8], at: usize) -> Signed
+// The signed number at a place, and the place behind it.
+#[tactic(auto, using(crate::proofs::leb128::Sleb::sleb_laws))]
+pub fn read_sleb(s: &[u8], at: usize) -> Option<(i64, usize)>
     ensures { result ≡ sleb_at s.now at }
 {
-    match gather(s, at) {
+    match gather(s, at)? {
         Gathered::Few {
             low,
             scale,
@@ -70,25 +59,21 @@ pub fn read_sleb(s: &[u8], at: usize) -> Signed
             next,
         } => {
             if last < 64 {
-                Signed::Value(plus(low + (last as u64) * scale), next)
-            } else {
-                // The number with each of its bits flipped, and flipped back.
-                Signed::Value(
-                    minus(((127 - last) as u64) * scale + (scale - 1 - low)),
-                    next,
-                )
+                return Some((plus(low + u64::from(last) * scale), next));
             }
+            // The number with each of its bits flipped, and flipped back.
+            let flipped = u64::from(127 - last) * scale + (scale - 1 - low);
+            Some((minus(flipped), next))
         }
         Gathered::Ten { low, last, next } => {
             if last == 0 {
-                return Signed::Value(plus(low), next);
+                return Some((plus(low), next));
             }
             if last == 127 {
-                return Signed::Value(minus(TENTH - 1 - low), next);
+                return Some((minus(TENTH - 1 - low), next));
             }
-            Signed::Fault
+            None
         }
-        Gathered::Cut => Signed::Fault,
     }
 }
 
@@ -96,7 +81,7 @@ pub fn read_sleb(s: &[u8], at: usize) -> Signed
 const TENTH: u64 = 0x8000_0000_0000_0000;
 
 // The bytes of a number: those before the last are worth `low`, and the last counts `scale` times;
-// of ten bytes, TENTH times. Cut where the bytes, or ten of them, run out before the last.
+// of ten bytes, TENTH times.
 #[derive(Clone, Copy)]
 enum Gathered {
     Few {
@@ -110,41 +95,37 @@ enum Gathered {
         last: u8,
         next: usize,
     },
-    Cut,
 }
 
-// The bytes of the number at a place, of either sign.
-fn gather(s: &[u8], from: usize) -> Gathered
+// The bytes of the number at a place, of either sign; none where the bytes, or ten of them, run out
+// before the last.
+fn gather(s: &[u8], from: usize) -> Option<Gathered>
     ensures { result ≡ gathered_at s.now from }
 {
-    let mut at = from;
     let mut low: u64 = 0;
     let mut scale: u64 = 1;
-    while at < s.len() {
+    for at in from..s.len() {
         let byte = s[at];
+        let next = at + 1;
         if byte < 128 {
+            let last = byte;
             if scale == TENTH {
-                return Gathered::Ten {
-                    low,
-                    last: byte,
-                    next: at + 1,
-                };
+                return Some(Gathered::Ten { low, last, next });
             }
-            return Gathered::Few {
+            return Some(Gathered::Few {
                 low,
                 scale,
-                last: byte,
-                next: at + 1,
-            };
+                last,
+                next,
+            });
         }
         if scale == TENTH {
-            return Gathered::Cut;
+            return None;
         }
-        low = low + ((byte % 128) as u64) * scale;
-        scale = scale * 128;
-        at = at + 1;
+        low += u64::from(byte % 128) * scale;
+        scale *= 128;
     }
-    Gathered::Cut
+    None
 }
 
 // The number x.

@@ -1,18 +1,23 @@
 // Parts of a lent slice.
 ghost use Rattle.std.specs.Prelude.{◌≡◌};
-ghost use Rattle.numbers.specs.Parts.{part_at};
 
-// The part of a slice at a place and of a length: of its own bytes, where they lie. The part is
-// empty where place and length do not lie in the slice.
-pub fn part(s: &[u8], at: usize, len: usize) -> &[u8]
-    ensures { (result.ref_ptr, result.now) ≡ part_at s.entry.ref_ptr s.now at len }
-{
-    if s.len() < at {
-        return &s[0..0];
+// A part of a slice that a caller lends: where it begins, and how many bytes it has.
+#[derive(Clone, Copy, Debug, PartialEq, Eq)]
+pub struct Part {
+    pub place: usize,
+    pub length: usize,
+}
+
+impl Part {
+    ghost use Rattle.numbers.specs.Parts.{part_at};
+
+    // The part: the slice's own bytes, where they lie. It is empty where place and length do not lie in the slice.
+    pub fn of(self, s: &[u8]) -> &[u8]
+        ensures { (result.ref_ptr, result.now) ≡ part_at s.entry.ref_ptr s.now self.place self.length }
+    {
+        if s.len() < self.place || s.len() - self.place < self.length {
+            return &s[..0];
+        }
+        &s[self.place..self.place + self.length]
     }
-    if s.len() - at < len {
-        return &s[0..0];
-    }
-    let end = at + len;
-    &s[at..end]
 }

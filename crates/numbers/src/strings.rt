@@ -3,36 +3,27 @@ ghost use Rattle.std.specs.Prelude.{◌≡◌, ◌+◌, ◌≤◌, length};
 ghost use Rattle.numbers.specs.Strings.{is_nul, string_at};
 ghost use Rattle.numbers.specs.Passed.{Passed, nul_within};
 
-// A string: where it starts, its length without the NUL, and the place behind the NUL.
-#[derive(Clone, Copy)]
-pub enum Text {
-    Found {
-        start: usize,
-        len: usize,
-        next: usize,
-    },
-    Fault,
-}
+use crate::parts::Part;
 
-// The string at a place, to its first NUL.
-pub fn read_string(s: &[u8], from: usize) -> Text
+// The string at a place, without the NUL that ends it, and the place behind the NUL.
+#[tactic(auto, using(crate::proofs::strings::Nuls::string_laws))]
+pub fn read_string(s: &[u8], from: usize) -> Option<(Part, usize)>
     ensures { result ≡ string_at s.now from }
 {
-    let mut at = pass(s, from);
-    while at < s.len() {
+    for at in pass(s, from)..s.len() {
         if s[at] == 0 {
-            return Text::Found {
-                start: from,
-                len: at - from,
-                next: at + 1,
+            let string = Part {
+                place: from,
+                length: at - from,
             };
+            return Some((string, at + 1));
         }
-        at = at + 1;
     }
-    Text::Fault
+    None
 }
 
 // A place with no NUL before it, from here on: eight bytes are passed at a time.
+#[tactic(auto, using(crate::proofs::strings::Nuls::eight_laws))]
 fn pass(s: &[u8], from: usize) -> usize
     ensures { Passed is_nul s.now from result }
 {
@@ -41,11 +32,12 @@ fn pass(s: &[u8], from: usize) -> usize
     }
     let last = s.len() - 8;
     let mut at = from;
+    // (A `while`: what is answered behind it is the place where it stopped.)
     while at <= last {
         if has_nul(s, at) {
             return at;
         }
-        at = at + 8;
+        at += 8;
     }
     at
 }

@@ -1,4 +1,2 @@
 mod Turns
-mod Prefixes
 mod Samples
-mod Ascii

@@ -1,27 +1,24 @@
 -- Digits taken one by one, as a loop does. Assumes nothing.
-use Prim.Native.Nat.{ℕ, suc, ◌+◌, ◌-◌, ◌*◌, ◌/◌, ◌^◌, ◌≤◌, ◌<◌}
+use Prim.Native.Nat.{ℕ, suc, ◌+◌, ◌*◌, ◌^◌, ◌≤◌, ◌<◌}
 use mathlib.Core.Path.{◌≡◌, refl, sym, ap, ◌∙◌, subst}
 use mathlib.Core.Bool.{Bool, true, false, cond, ◌&&◌, and-false}
 use mathlib.Core.List.{List, [], ◌∷◌}
-use native.Mathlib.Nat.{add-mul, mul_assoc, pow-zero, pow-succ', one-le-pow, le-mul_of_pos_right, le-div_iff_mul-le, div-lt_iff_lt-mul}
-use native.Mathlib.Numerals.{add-one}
+use native.Mathlib.Nat.{add-mul, mul_assoc, pow-zero, pow-succ', one-le-pow, le-mul_of_pos_right}
 use native.Mathlib.Omega.{arith}
 use borrow.Author.Tests.{lt-ltb, le-ltb, ltb-true, ltb-false}
 use lib.Dec.{ltb}
-use lib.ListN.{length, get_or, drop, drop_of_length-le}
-use lib.Seq.{drop-cons}
+use Rattle.std.specs.Prelude.{Option, Some, None}
+use lib.ListN.{length, drop}
 use Rattle.numerals.specs.Numerals.{digit_of, are_digits, value_of, in_base}
-use Rattle.numerals.specs.declared.Numeral.{Numeral}
-use Rattle.numerals.specs.declared.Numeral.TheVariants as numeral
 
 -- digits of a base behind others that come to v
-abbrev pub behind : ℕ → ℕ → List ℕ → Numeral
-behind base v [] = numeral.Value v
+abbrev pub behind : ℕ → ℕ → List ℕ → Option ℕ
+behind base v [] = Some v
 behind base v (b ∷ bs) =
-    cond (ltb (digit_of b) base && ltb (v * base + digit_of b) (2 ^ 64)) (behind base (v * base + digit_of b) bs) numeral.Not
+    cond (ltb (digit_of b) base && ltb (v * base + digit_of b) (2 ^ 64)) (behind base (v * base + digit_of b) bs) None
 
-abbrev bounded : Bool → ℕ → Numeral
-bounded a n = cond (a && ltb n (2 ^ 64)) (numeral.Value n) numeral.Not
+abbrev bounded : Bool → ℕ → Option ℕ
+bounded a n = cond (a && ltb n (2 ^ 64)) (Some n) None
 
 module _ (base : ℕ) (p : 0 < base) where
   -- what came before a digit counts for one place more
@@ -37,7 +34,7 @@ module _ (base : ℕ) (p : 0 < base) where
   all_behind : (v : ℕ) (bs : List ℕ) → v < 2 ^ 64 → behind base v bs ≡ bounded (are_digits base bs) (v * base ^ length bs + value_of base bs)
   all_behind v [] h =
       let e : v ≡ v * base ^ 0 + 0 = omega (arith, ap (λ (m : ℕ). v * m) (pow-zero base)) in
-      subst (λ (n : ℕ). numeral.Value v ≡ bounded true n) e (rw (lt-ltb v (2 ^ 64) h) refl)
+      subst (λ (n : ℕ). Some v ≡ bounded true n) e (rw (lt-ltb v (2 ^ 64) h) refl)
   all_behind v (b ∷ bs) h =
       by_tests
       (ltb (digit_of b) base)
@@ -64,29 +61,3 @@ module _ (base : ℕ) (p : 0 < base) where
   starts bs =
       let e : 0 * base ^ length bs + value_of base bs ≡ value_of base bs = omega arith in
       sym (all_behind 0 bs (omega arith) ∙ ap (bounded (are_digits base bs)) e)
-
-pub all : (s : List ℕ) (base v i : ℕ) {x : Numeral} → x ≡ behind base v (drop i s) → length s ≤ i → numeral.Value v ≡ x
-all s base v i inv h = sym (inv ∙ ap (behind base v) (drop_of_length-le s h))
-
-module _ (s : List ℕ) (base v i : ℕ) {d : ℕ} (x : Numeral) (inv : x ≡ behind base v (drop i s)) (h : i < length s) (e : d ≡ digit_of (get_or s i 0)) where
-  turn : x ≡ cond (ltb d base && ltb (v * base + d) (2 ^ 64)) (behind base (v * base + d) (drop (suc i) s)) numeral.Not
-  turn = inv ∙ ap (behind base v) (drop-cons s i 0 h) ∙ rw e refl
-
-  pub no_digit : base ≤ d → numeral.Not ≡ x
-  no_digit b = sym (turn ∙ rw (le-ltb d base b) refl)
-
-  pub too_large : 0 < base → d < 2 ^ 64 → (18446744073709551615 - d) / base < v → numeral.Not ≡ x
-  too_large p f b = sym (turn ∙ rw (le-ltb (v * base + d) (2 ^ 64) above, and-false (ltb d base)) refl)
-    where
-      above : 2 ^ 64 ≤ v * base + d
-      above = omega (arith, (div-lt_iff_lt-mul p).0 b)
-
-  pub goes_on : d < base → v * base + d < 2 ^ 64 → x ≡ behind base (v * base + d) (drop (i + 1) s)
-  goes_on a b = turn ∙ rw (lt-ltb d base a, lt-ltb (v * base + d) (2 ^ 64) b, add-one i) refl
-
-module _ (base v d : ℕ) (p : 0 < base) (b : v ≤ (18446744073709551615 - d) / base) where
-  pub product : v * base < 2 ^ 64
-  product = omega (arith, (le-div_iff_mul-le p).0 b)
-
-  pub sum : d < 2 ^ 64 → v * base + d < 2 ^ 64
-  sum f = omega (arith, (le-div_iff_mul-le p).0 b)

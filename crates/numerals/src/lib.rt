@@ -2,23 +2,17 @@
 
 #![tactic(auto)]
 
-ghost use Rattle.std.specs.Prelude.{◌<◌, ◌≡◌};
-ghost use Rattle.numerals.specs.Numerals.{among, digit_of, in_base, is_hexadecimal, numeral_of};
+ghost use Rattle.std.specs.Prelude.{◌<◌, ◌≤◌, ◌≡◌};
+ghost use Rattle.numerals.specs.Numerals.{digit_in, in_base, is_hexadecimal, numeral_of};
 
-#[derive(Clone, Copy)]
-pub enum Numeral {
-    Value(u64),
-    Not,
-}
-
-pub fn read(text: &[u8]) -> Numeral
+pub fn read(text: &[u8]) -> Option<u64>
     ensures { result ≡ numeral_of text.now }
 {
     if is_hexadecimal(text) {
         return digits(&text[2..], 16);
     }
-    if text.len() == 0 {
-        return Numeral::Not;
+    if text.is_empty() {
+        return None;
     }
     digits(text, 10)
 }
@@ -26,56 +20,30 @@ pub fn read(text: &[u8]) -> Numeral
 fn is_hexadecimal(text: &[u8]) -> bool
     ensures { result ≡ is_hexadecimal text.now }
 {
-    if text.len() <= 2 {
-        return false;
-    }
-    if text[0] != b'0' {
-        return false;
-    }
-    text[1] == b'x'
+    matches!(text, [b'0', b'x', _, ..])
 }
 
 // In a base: digit by digit, what those before come to, times the base.
-fn digits(text: &[u8], base: u64) -> Numeral
+fn digits(text: &[u8], base: u64) -> Option<u64>
     requires { 0 < base }
     ensures { result ≡ in_base base text.now }
 {
     let mut value: u64 = 0;
-    let mut i = 0;
-    while i < text.len() {
-        let d = digit(text[i]);
-        if base <= d {
-            return Numeral::Not;
-        }
-        if (u64::MAX - d) / base < value {
-            return Numeral::Not;
-        }
-        value = value * base + d;
-        i += 1;
+    for b in text {
+        let d = digit(*b, base)?;
+        value = value.checked_mul(base)?.checked_add(d)?;
     }
-    Numeral::Value(value)
+    Some(value)
 }
 
-fn digit(b: u8) -> u64
-    ensures { result ≡ digit_of b }
+fn digit(b: u8, base: u64) -> Option<u64>
+    ensures { result ≡ digit_in base b }
 {
-    if among(b'0', b'9', b) {
-        return (b - b'0') as u64;
-    }
-    if among(b'A', b'F', b) {
-        return (b - b'A') as u64 + 10;
-    }
-    if among(b'a', b'f', b) {
-        return (b - b'a') as u64 + 10;
-    }
-    16
-}
-
-fn among(first: u8, last: u8, b: u8) -> bool
-    ensures { result ≡ among first last b }
-{
-    if b < first {
-        return false;
-    }
-    b <= last
+    let d = match b {
+        b'0'..=b'9' => u64::from(b - b'0'),
+        b'A'..=b'F' => u64::from(b - b'A') + 10,
+        b'a'..=b'f' => u64::from(b - b'a') + 10,
+        _ => 16, // a digit of no base here
+    };
+    (d < base).then_some(d)
 }

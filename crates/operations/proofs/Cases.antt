@@ -1,7 +1,7 @@
 -- What holds of each row of a table holds of the operation at a place. Assumes nothing.
 use Prim.Native.Nat.{ℕ, ◌+◌, ◌*◌, ◌/◌, ◌%◌, ◌≤◌, ◌<◌}
 use mathlib.Core.List.{List, [], ◌∷◌}
-use mathlib.Core.Option.{Option, some}
+use Rattle.std.specs.Prelude.{Option, Some}
 use native.Mathlib.Omega.{arith}
 use borrow.Author.Tests.{ltb-true, ltb-false}
 use lib.Dec.{ltb, eqb}
@@ -25,7 +25,7 @@ module _ {Op : Type 0} (P : Parsed Op → Type 0) (bad : (e : Refusal) → P (fa
     unfolding looked_up
     by_row opcode [] h = bad UnknownOpcode
     by_row opcode (k ⇒ operands ∷ rows) h =
-        by_pick (λ (o : Option (Operands Op)). P (found_at s at o)) (eqb opcode k) (some operands) (looked_up opcode rows) h.0 (by_row opcode rows h.1)
+        by_pick (λ (o : Option (Operands Op)). P (found_at s at o)) (eqb opcode k) (Some operands) (looked_up opcode rows) h.0 (by_row opcode rows h.1)
 
   module _ (table : ℕ → List (Row Op)) (s : List ℕ) (at : ℕ) (rows : at < length s → (imm : ℕ) → imm < 16 → Each s (at + 1) (table imm)) (none : length s ≤ at → P no_bytes) where
     pub by_table : P (operation_at table s at)

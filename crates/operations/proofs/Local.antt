@@ -4,7 +4,7 @@ use Prim.Native.Nat.{ℕ, ◌+◌, ◌≤◌, ◌<◌}
 use mathlib.Core.Path.{◌≡◌, refl, ap, sym, ◌∙◌, subst}
 use mathlib.Core.Bool.{cond}
 use mathlib.Core.List.{List}
-use mathlib.Core.Option.{Option, none, some}
+use Rattle.std.specs.Prelude.{Option, None, Some}
 use native.Mathlib.Omega.{arith}
 use borrow.Author.Tests.{lt-ltb, ltb-true}
 use lib.Dec.{ltb}
@@ -12,12 +12,10 @@ use lib.ListN.{length, get_or}
 use Rattle.numbers.proofs.Laws.{uleb_read, sleb_read, string_read}
 use Rattle.numbers.proofs.Local.{Decided, later, decides, decides_then, byte_local, below_local, uleb_local, sleb_local, string_local}
 use Rattle.numbers.proofs.Picks.{by_test}
-use Rattle.numbers.proofs.Then.{by_unsigned, by_signed, by_text}
+use Rattle.numbers.proofs.Then.{by_read}
 use Rattle.numbers.specs.Leb128.{uleb_at, sleb_at}
 use Rattle.numbers.specs.Strings.{string_at}
-use Rattle.numbers.specs.Then.{then_unsigned, then_signed, then_text}
-use Rattle.numbers.specs.declared.leb128.Unsigned.{Unsigned}
-use Rattle.numbers.specs.declared.leb128.Unsigned.TheVariants as unsigned
+use Rattle.numbers.specs.Then.{then}
 use Rattle.refusal.specs.Numbers.{number_of}
 use Rattle.refusal.specs.declared.Refusal.TheVariants.{UnknownOpcode, FaultyOperand}
 use Rattle.operations.specs.Table.{Parsed, operation, faulty, no_bytes, Operands, alone, uleb, ulebs, sleb, string, Row, operands_at, operands_of, found_at, operation_at}
@@ -32,23 +30,23 @@ module _ {Op : Type 0} (s : List ℕ) where
 
   if_uleb : (at : ℕ) (make : ℕ → Op) → IfOperands at (uleb make) (operands_at s at (uleb make))
   if_uleb at make =
-      by_unsigned (uleb_at s at) _ _ (IfOperands at (uleb make)) refl
+      by_read (uleb_at s at) _ _ (IfOperands at (uleb make)) refl
       (λ v next e. (
         omega (arith, (uleb_read s at (sym e) refl).within.beyond),
-        decides (uleb_local s at e) (λ x. then_unsigned x (faulty FaultyOperand) (λ v next. operation (make v) next)),
+        decides (uleb_local s at e) (λ x. then x (faulty FaultyOperand) (λ v next. operation (make v) next)),
       ))
 
   -- two numbers are one, and then another
-  abbrev second : (make : ℕ → ℕ → Op) → List ℕ → Unsigned → Parsed Op
-  second make r x = then_unsigned x (faulty FaultyOperand) (λ v next. operands_at r next (uleb (make v)))
+  abbrev second : (make : ℕ → ℕ → Op) → List ℕ → Option (ℕ × ℕ) → Parsed Op
+  second make r x = then x (faulty FaultyOperand) (λ v next. operands_at r next (uleb (make v)))
 
-  if_first : (at : ℕ) (make : ℕ → ℕ → Op) {v next : ℕ} → uleb_at s at ≡ unsigned.Value v next → (x : Parsed Op) → IfOperands next (uleb (make v)) x →
+  if_first : (at : ℕ) (make : ℕ → ℕ → Op) {v next : ℕ} → uleb_at s at ≡ Some (v, next) → (x : Parsed Op) → IfOperands next (uleb (make v)) x →
       IfOperands at (ulebs make) x
-  unfolding then_unsigned
+  unfolding then
   if_first at make {v} {next} e (operation op after) (h, d) = (
     omega (arith, (uleb_read s at (sym e) refl).within.beyond),
     decides_then (second make) (later (uleb_local s at e) after h d.inside)
-        (subst (λ (x : Unsigned). Decided (λ r. second make r x) s after) (sym e) d),
+        (subst (λ (x : Option (ℕ × ℕ)). Decided (λ r. second make r x) s after) (sym e) d),
   )
   if_first at make e (faulty n) h = h
   if_first at make e no_bytes h = h
@@ -57,18 +55,18 @@ module _ {Op : Type 0} (s : List ℕ) where
   if_operands at h (alone op) = (omega arith, record { inside = h; same = λ r e. refl })
   if_operands at h (uleb make) = if_uleb at make
   if_operands at h (ulebs make) =
-      by_unsigned (uleb_at s at) _ _ (IfOperands at (ulebs make)) refl (λ v next e. if_first at make e (operands_at s next (uleb (make v))) (if_uleb next (make v)))
+      by_read (uleb_at s at) _ _ (IfOperands at (ulebs make)) refl (λ v next e. if_first at make e (operands_at s next (uleb (make v))) (if_uleb next (make v)))
   if_operands at h (sleb make) =
-      by_signed (sleb_at s at) _ _ (IfOperands at (sleb make)) refl
+      by_read (sleb_at s at) _ _ (IfOperands at (sleb make)) refl
       (λ v next e. (
         omega (arith, (sleb_read s at (sym e) refl).within.beyond),
-        decides (sleb_local s at e) (λ x. then_signed x (faulty FaultyOperand) (λ v next. operation (make v) next)),
+        decides (sleb_local s at e) (λ x. then x (faulty FaultyOperand) (λ v next. operation (make v) next)),
       ))
   if_operands at h (string make) =
-      by_text (string_at s at) _ _ (IfOperands at (string make)) refl
-      (λ start len next e. (
+      by_read (string_at s at) _ _ (IfOperands at (string make)) refl
+      (λ name next e. (
         omega (arith, (string_read s at (sym e) refl).within.beyond),
-        decides (string_local s at e) (λ x. then_text x (faulty FaultyOperand) (λ start len next. operation (make start len) next)),
+        decides (string_local s at e) (λ x. then x (faulty FaultyOperand) (λ name next. operation (make name) next)),
       ))
 
   pub operands_local : (at : ℕ) → at ≤ length s → (o : Operands Op) {op : Op} {next : ℕ} → operands_at s at o ≡ operation op next → Decided (λ r. operands_at r at o) s next
@@ -94,14 +92,14 @@ module _ {Op : Type 0} (table : ℕ → List (Row Op)) (s : List ℕ) (at : ℕ)
   IfOperation (faulty e) = e ≡ UnknownOpcode → Settled (at + 1)
   IfOperation no_bytes = Unit {0}
 
-  if_found : at < length s → (o : Operands Op) → operands_of table (get_or s at 0) ≡ some o → (x : Parsed Op) → IfOperands s (at + 1) o x → IfOperation x
-  if_found h o e (operation op next) (l, d) = by_byte h (some o) e l d
+  if_found : at < length s → (o : Operands Op) → operands_of table (get_or s at 0) ≡ Some o → (x : Parsed Op) → IfOperands s (at + 1) o x → IfOperation x
+  if_found h o e (operation op next) (l, d) = by_byte h (Some o) e l d
   if_found h o e (faulty n) f = λ g. absurd (omega (arith, ap number_of (sym f ∙ g)))
   if_found h o e no_bytes f = absurd f
 
   by_operands : at < length s → (o : Option (Operands Op)) → operands_of table (get_or s at 0) ≡ o → IfOperation (found_at s (at + 1) o)
-  by_operands h none e = λ g. by_byte h none e (omega arith) (record { inside = omega arith; same = λ r f. refl })
-  by_operands h (some o) e = if_found h o e (operands_at s (at + 1) o) (if_operands s (at + 1) (omega arith) o)
+  by_operands h None e = λ g. by_byte h None e (omega arith) (record { inside = omega arith; same = λ r f. refl })
+  by_operands h (Some o) e = if_found h o e (operands_at s (at + 1) o) (if_operands s (at + 1) (omega arith) o)
 
   if_operation : IfOperation (operation_at table s at)
   unfolding operation_at

@@ -33,7 +33,7 @@ bind_table imm =
     0x10 ⇒ alone (bind.SetDylibOrdinal imm) ∷  -- SET_DYLIB_ORDINAL_IMM
     0x20 ⇒ uleb (λ ordinal. bind.SetDylibOrdinal ordinal) ∷  -- SET_DYLIB_ORDINAL_ULEB
     0x30 ⇒ alone (bind.SetDylibSpecial (special imm)) ∷  -- SET_DYLIB_SPECIAL_IMM
-    0x40 ⇒ string (λ place length. bind.SetSymbol imm place length) ∷  -- SET_SYMBOL_TRAILING_FLAGS_IMM
+    0x40 ⇒ string (λ name. bind.SetSymbol imm name) ∷  -- SET_SYMBOL_TRAILING_FLAGS_IMM
     0x50 ⇒ alone (bind.SetType imm) ∷  -- SET_TYPE_IMM
     0x60 ⇒ sleb (λ addend. bind.SetAddend addend) ∷  -- SET_ADDEND_SLEB
     0x70 ⇒ uleb (λ offset. bind.SetSegmentAndOffset imm offset) ∷  -- SET_SEGMENT_AND_OFFSET_ULEB

@@ -1,142 +1,91 @@
 // The operations of a bind stream.
 ghost use Rattle.std.specs.Prelude.{◌≡◌, ◌<◌};
 ghost use Rattle.operations.specs.Loader.{bind_table, special};
-ghost use Rattle.operations.specs.Table.{string, ulebs, operands_at, operation_at};
-ghost use Rattle.operations.specs.Told.{bind_told};
-ghost use Rattle.operations.specs.declared.bind_operation.BindOperation.TheVariants.{SetSymbol, DoBindTimesSkipping};
+ghost use Rattle.operations.specs.Table.{operation_at};
+ghost use Rattle.operations.specs.Told.{told};
 
-use crate::bind_operation::{BindOperation as Op, BindParse as Parse};
-use numbers::leb128::{Signed, Unsigned, read_sleb, read_uleb};
-use numbers::strings::{Text, read_string};
-use refusal::Refusal;
+use crate::operands::read_ulebs;
+use numbers::leb128::{read_sleb, read_uleb};
+use numbers::parts::Part;
+use numbers::strings::read_string;
+use refusal::Refusal::{self, FaultyOperand, UnknownOpcode};
 
-// A symbol's name is a place and a length in the stream.
-#[derive(Clone, Copy)]
+// A symbol's name is a part of the stream.
+#[derive(Clone, Copy, Debug, PartialEq, Eq)]
 pub enum BindOperation {
     Done,
-    SetDylibOrdinal {
-        ordinal: u64,
-    },
-    SetDylibSpecial {
-        ordinal: i32,
-    },
-    SetSymbol {
-        flags: u8,
-        place: usize,
-        length: usize,
-    },
-    SetType {
-        kind: u8,
-    },
-    SetAddend {
-        addend: i64,
-    },
-    SetSegmentAndOffset {
-        index: u8,
-        offset: u64,
-    },
-    AddAddr {
-        offset: u64,
-    },
+    SetDylibOrdinal { ordinal: u64 },
+    SetDylibSpecial { ordinal: i32 },
+    SetSymbol { flags: u8, name: Part },
+    SetType { kind: u8 },
+    SetAddend { addend: i64 },
+    SetSegmentAndOffset { index: u8, offset: u64 },
+    AddAddr { offset: u64 },
     DoBind,
-    DoBindAddAddr {
-        offset: u64,
-    },
-    DoBindAddAddrScaled {
-        count: u8,
-    },
-    DoBindTimesSkipping {
-        count: u64,
-        skip: u64,
-    },
-}
-
-// An operation and the place behind it; the end, where no bytes are left.
-#[derive(Clone, Copy)]
-pub enum BindParse {
-    Operation(BindOperation, usize),
-    Refused(Refusal),
-    End,
+    DoBindAddAddr { offset: u64 },
+    DoBindAddAddrScaled { count: u8 },
+    DoBindTimesSkipping { count: u64, skip: u64 },
 }
 
 impl BindOperation {
-    // The operation at a place.
-    pub fn parse(s: &[u8], at: usize) -> BindParse
-        ensures { bind_told result ≡ operation_at bind_table s.now at }
+    // The operation at a place, and the place behind it; none where no bytes are left.
+    #[tactic(auto, unfolding(crate::specs::Table::operation_at, crate::specs::Table::looked_up, numbers::specs::Then::then))]
+    pub fn parse(s: &[u8], at: usize) -> Result<Option<(Self, usize)>, Refusal>
+        ensures { told result ≡ operation_at bind_table s.now at }
     {
         if s.len() <= at {
-            return Parse::End;
+            return Ok(None);
         }
         let opcode = s[at] / 16;
         let imm = s[at] % 16;
         match opcode {
-            0 => Parse::Operation(Op::Done, at + 1),
-            1 => {
-                let ordinal = imm as u64;
-                Parse::Operation(Op::SetDylibOrdinal { ordinal }, at + 1)
-            }
+            0 => Ok(Some((Self::Done, at + 1))),
+            1 => Ok(Some((
+                Self::SetDylibOrdinal {
+                    ordinal: u64::from(imm),
+                },
+                at + 1,
+            ))),
             2 => {
-                let Unsigned::Value(ordinal, next) = read_uleb(s, at + 1) else {
-                    return Parse::Refused(Refusal::FaultyOperand);
-                };
-                Parse::Operation(Op::SetDylibOrdinal { ordinal }, next)
+                let (ordinal, next) = read_uleb(s, at + 1).ok_or(FaultyOperand)?;
+                Ok(Some((Self::SetDylibOrdinal { ordinal }, next)))
             }
-            3 => {
-                let ordinal = special(imm);
-                Parse::Operation(Op::SetDylibSpecial { ordinal }, at + 1)
+            3 => Ok(Some((
+                Self::SetDylibSpecial {
+                    ordinal: special(imm),
+                },
+                at + 1,
+            ))),
+            4 => {
+                let (name, next) = read_string(s, at + 1).ok_or(FaultyOperand)?;
+                Ok(Some((Self::SetSymbol { flags: imm, name }, next)))
             }
-            4 => symbol(s, at + 1, imm),
-            5 => Parse::Operation(Op::SetType { kind: imm }, at + 1),
+            5 => Ok(Some((Self::SetType { kind: imm }, at + 1))),
             6 => {
-                let Signed::Value(addend, next) = read_sleb(s, at + 1) else {
-                    return Parse::Refused(Refusal::FaultyOperand);
-                };
-                Parse::Operation(Op::SetAddend { addend }, next)
+                let (addend, next) = read_sleb(s, at + 1).ok_or(FaultyOperand)?;
+                Ok(Some((Self::SetAddend { addend }, next)))
             }
             7 => {
-                let Unsigned::Value(offset, next) = read_uleb(s, at + 1) else {
-                    return Parse::Refused(Refusal::FaultyOperand);
-                };
-                Parse::Operation(Op::SetSegmentAndOffset { index: imm, offset }, next)
+                let (offset, next) = read_uleb(s, at + 1).ok_or(FaultyOperand)?;
+                Ok(Some((Self::SetSegmentAndOffset { index: imm, offset }, next)))
             }
             8 => {
-                let Unsigned::Value(offset, next) = read_uleb(s, at + 1) else {
-                    return Parse::Refused(Refusal::FaultyOperand);
-                };
-                Parse::Operation(Op::AddAddr { offset }, next)
+                let (offset, next) = read_uleb(s, at + 1).ok_or(FaultyOperand)?;
+                Ok(Some((Self::AddAddr { offset }, next)))
             }
-            9 => Parse::Operation(Op::DoBind, at + 1),
+            9 => Ok(Some((Self::DoBind, at + 1))),
             10 => {
-                let Unsigned::Value(offset, next) = read_uleb(s, at + 1) else {
-                    return Parse::Refused(Refusal::FaultyOperand);
-                };
-                Parse::Operation(Op::DoBindAddAddr { offset }, next)
+                let (offset, next) = read_uleb(s, at + 1).ok_or(FaultyOperand)?;
+                Ok(Some((Self::DoBindAddAddr { offset }, next)))
             }
-            11 => Parse::Operation(Op::DoBindAddAddrScaled { count: imm }, at + 1),
-            12 => times_skipping(s, at + 1),
-            13..=255 => Parse::Refused(Refusal::UnknownOpcode),
+            11 => Ok(Some((Self::DoBindAddAddrScaled { count: imm }, at + 1))),
+            12 => {
+                let ((count, skip), next) = read_ulebs(s, at + 1).ok_or(FaultyOperand)?;
+                Ok(Some((Self::DoBindTimesSkipping { count, skip }, next)))
+            }
+            13..=255 => Err(UnknownOpcode),
         }
     }
-}
-
-// A symbol's flags, and its name, which stands at a place.
-fn symbol(s: &[u8], at: usize, flags: u8) -> BindParse
-    ensures { bind_told result ≡ operands_at s.now at (string (SetSymbol flags)) }
-{
-    let Text::Found {
-        start: place,
-        len: length,
-        next,
-    } = read_string(s, at)
-    else {
-        return Parse::Refused(Refusal::FaultyOperand);
-    };
-    let op = Op::SetSymbol {
-        flags,
-        place,
-        length,
-    };
-    Parse::Operation(op, next)
 }
 
 // The library that a special immediate stands for.
@@ -147,18 +96,5 @@ fn special(imm: u8) -> i32
     if imm == 0 {
         return 0;
     }
-    (imm as i32) - 16
-}
-
-// A count and a skip, which stand at a place.
-fn times_skipping(s: &[u8], at: usize) -> Parse
-    ensures { bind_told result ≡ operands_at s.now at (ulebs DoBindTimesSkipping) }
-{
-    let Unsigned::Value(count, next) = read_uleb(s, at) else {
-        return Parse::Refused(Refusal::FaultyOperand);
-    };
-    let Unsigned::Value(skip, after) = read_uleb(s, next) else {
-        return Parse::Refused(Refusal::FaultyOperand);
-    };
-    Parse::Operation(Op::DoBindTimesSkipping { count, skip }, after)
+    i32::from(imm) - 16
 }

@@ -3,4 +3,5 @@
 #![tactic(auto)]
 
 pub mod bind_operation;
+mod operands;
 pub mod rebase_operation;

@@ -1,15 +1,14 @@
 // The operations of a rebase stream.
 ghost use Rattle.std.specs.Prelude.{◌≡◌};
 ghost use Rattle.operations.specs.Loader.{rebase_table};
-ghost use Rattle.operations.specs.Table.{ulebs, operands_at, operation_at};
-ghost use Rattle.operations.specs.Told.{rebase_told};
-ghost use Rattle.operations.specs.declared.rebase_operation.RebaseOperation.TheVariants.{DoRebaseTimesSkipping};
+ghost use Rattle.operations.specs.Table.{operation_at};
+ghost use Rattle.operations.specs.Told.{told};
 
-use crate::rebase_operation::{RebaseOperation as Op, RebaseParse as Parse};
-use numbers::leb128::{Unsigned, read_uleb};
-use refusal::Refusal;
+use crate::operands::read_ulebs;
+use numbers::leb128::read_uleb;
+use refusal::Refusal::{self, FaultyOperand, UnknownOpcode};
 
-#[derive(Clone, Copy)]
+#[derive(Clone, Copy, Debug, PartialEq, Eq)]
 pub enum RebaseOperation {
     Done,
     SetType { kind: u8 },
@@ -21,68 +20,48 @@ pub enum RebaseOperation {
     DoRebaseTimesSkipping { count: u64, skip: u64 },
 }
 
-// An operation and the place behind it; the end, where no bytes are left.
-#[derive(Clone, Copy)]
-pub enum RebaseParse {
-    Operation(RebaseOperation, usize),
-    Refused(Refusal),
-    End,
-}
-
 impl RebaseOperation {
-    // The operation at a place.
-    pub fn parse(s: &[u8], at: usize) -> RebaseParse
-        ensures { rebase_told result ≡ operation_at rebase_table s.now at }
+    // The operation at a place, and the place behind it; none where no bytes are left.
+    #[tactic(auto, unfolding(crate::specs::Table::operation_at, crate::specs::Table::looked_up, numbers::specs::Then::then))]
+    pub fn parse(s: &[u8], at: usize) -> Result<Option<(Self, usize)>, Refusal>
+        ensures { told result ≡ operation_at rebase_table s.now at }
     {
         if s.len() <= at {
-            return Parse::End;
+            return Ok(None);
         }
         let opcode = s[at] / 16;
         let imm = s[at] % 16;
         match opcode {
-            0 => Parse::Operation(Op::Done, at + 1),
-            1 => Parse::Operation(Op::SetType { kind: imm }, at + 1),
+            0 => Ok(Some((Self::Done, at + 1))),
+            1 => Ok(Some((Self::SetType { kind: imm }, at + 1))),
             2 => {
-                let Unsigned::Value(offset, next) = read_uleb(s, at + 1) else {
-                    return Parse::Refused(Refusal::FaultyOperand);
-                };
-                Parse::Operation(Op::SetSegmentAndOffset { index: imm, offset }, next)
+                let (offset, next) = read_uleb(s, at + 1).ok_or(FaultyOperand)?;
+                Ok(Some((Self::SetSegmentAndOffset { index: imm, offset }, next)))
             }
             3 => {
-                let Unsigned::Value(offset, next) = read_uleb(s, at + 1) else {
-                    return Parse::Refused(Refusal::FaultyOperand);
-                };
-                Parse::Operation(Op::AddAddr { offset }, next)
+                let (offset, next) = read_uleb(s, at + 1).ok_or(FaultyOperand)?;
+                Ok(Some((Self::AddAddr { offset }, next)))
             }
-            4 => Parse::Operation(Op::AddAddrScaled { count: imm }, at + 1),
-            5 => Parse::Operation(Op::DoRebaseTimes { count: imm as u64 }, at + 1),
+            4 => Ok(Some((Self::AddAddrScaled { count: imm }, at + 1))),
+            5 => Ok(Some((
+                Self::DoRebaseTimes {
+                    count: u64::from(imm),
+                },
+                at + 1,
+            ))),
             6 => {
-                let Unsigned::Value(count, next) = read_uleb(s, at + 1) else {
-                    return Parse::Refused(Refusal::FaultyOperand);
-                };
-                Parse::Operation(Op::DoRebaseTimes { count }, next)
+                let (count, next) = read_uleb(s, at + 1).ok_or(FaultyOperand)?;
+                Ok(Some((Self::DoRebaseTimes { count }, next)))
             }
             7 => {
-                let Unsigned::Value(offset, next) = read_uleb(s, at + 1) else {
-                    return Parse::Refused(Refusal::FaultyOperand);
-                };
-                Parse::Operation(Op::DoRebaseAddAddr { offset }, next)
+                let (offset, next) = read_uleb(s, at + 1).ok_or(FaultyOperand)?;
+                Ok(Some((Self::DoRebaseAddAddr { offset }, next)))
             }
-            8 => times_skipping(s, at + 1),
-            9..=255 => Parse::Refused(Refusal::UnknownOpcode),
+            8 => {
+                let ((count, skip), next) = read_ulebs(s, at + 1).ok_or(FaultyOperand)?;
+                Ok(Some((Self::DoRebaseTimesSkipping { count, skip }, next)))
+            }
+            9..=255 => Err(UnknownOpcode),
         }
     }
-}
-
-// A count and a skip, which stand at a place.
-fn times_skipping(s: &[u8], at: usize) -> Parse
-    ensures { rebase_told result ≡ operands_at s.now at (ulebs DoRebaseTimesSkipping) }
-{
-    let Unsigned::Value(count, next) = read_uleb(s, at) else {
-        return Parse::Refused(Refusal::FaultyOperand);
-    };
-    let Unsigned::Value(skip, after) = read_uleb(s, next) else {
-        return Parse::Refused(Refusal::FaultyOperand);
-    };
-    Parse::Operation(Op::DoRebaseTimesSkipping { count, skip }, after)
 }

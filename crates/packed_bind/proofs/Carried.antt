@@ -1,6 +1,6 @@
 -- States of bind walks in bytes, both ways; and what calls in a row through the entry points say. Assumes nothing.
 use Prim.Native.Nat.{ℕ, ◌^◌, ◌≤◌, ◌<◌}
-use mathlib.Core.Path.{◌≡◌, refl, sym, ap, ◌∙◌}
+use mathlib.Core.Path.{◌≡◌, refl, ap, ◌∙◌}
 use mathlib.Core.Bool.{true, false}
 use mathlib.Core.List.{List, map}
 use native.Mathlib.Omega.{arith}
@@ -13,7 +13,8 @@ use Rattle.cursor.specs.Cursor.{in_range}
 use Rattle.listing.proofs.Joined.{joined}
 use Rattle.listing.proofs.Kept.{out_of_range}
 use Rattle.listing.proofs.Typed.{Typed, typed_begin}
-use Rattle.listing.specs.Call.{State, state, begin, call}
+use Rattle.listing.specs.Call.{begin, call}
+use Rattle.listing.specs.declared.Walk.{Walk}
 use Rattle.listing.specs.Listing as listing
 use Rattle.packing.proofs.Back.{Each, none, word_field, byte_field, flag_field, each_at, word_back, record_back, flag_back}
 use Rattle.packing.proofs.Calls.{Faithful, Long, started_say, records_back, refused_back}
@@ -27,13 +28,13 @@ use Rattle.packing.specs.Fields.{u64, is_set, bit, unsigned_of, signed_of}
 use Rattle.packing.specs.Words.{word_at, words_from, bytes_of}
 use Rattle.packed_bind.proofs.Signs.{i32_back, i32_fits}
 use Rattle.packed_bind.proofs.States.{state_is, state_record, library_is}
-use Rattle.packed_bind.specs.Packed.{state_fields, largest, is_state, state_words, state_at, states}
+use Rattle.packed_bind.specs.Packed.{state_fields, largest, is_i32, is_state, state_words, state_at, states}
 use Rattle.packed_bind.specs.Packed.{item_fields, item_words, item_at, items}
 use Rattle.runs.specs.Runs.{begun, item, mapped, Walks}
 
 -- ---- a state whose fields are such as their types have comes back from its bytes whole
 
-module _ (w : State Registers) (t : Typed TypedRegisters w) where
+module _ (w : Walk Registers) (t : Typed TypedRegisters w) where
   each : Each (state_words w) largest
   each =
       let c = t.cursor in
@@ -62,7 +63,7 @@ module _ (w : State Registers) (t : Typed TypedRegisters w) where
   holds : is_state (bytes_of (state_words w)) ≡ true
   holds =
       let i32 = i32_back w.registers.library t.registers.library in
-      sym (state_is (bytes_of (state_words w)) (record_back each) (sym i32) (sym (back 13 (omega arith))))
+      state_is (bytes_of (state_words w)) (record_back each) (ap is_i32 (back 13 (omega arith)) ∙ i32)
 
 -- ---- bytes that hold a state are those of that state
 
@@ -139,7 +140,7 @@ module _ (x : Bind) (t : TypedBind x) where
 
 module _ (s : List ℕ) (short : length s < 2 ^ 64) where
   -- from a start on they say what the stream lists; g is `plainly`, `weakly` or `lazily`, whose registers are `Typed` (bind/proofs/Typed.antt)
-  pub calls_list : (size : ℕ) (g : Registers) → TypedRegisters g → {w : State Registers} → begin size g ≡ begun w →
+  pub calls_list : (size : ℕ) (g : Registers) → TypedRegisters g → {w : Walk Registers} → begin size g ≡ begun w →
       (state item : List ℕ) → length state ≡ states.long → length item ≡ items.long →
       Walks (through states items (call binds s)) (lent (started states state (begin size g)).1 item)
       (recorded items (listing.heard (listing.listing binds size g s)))
@@ -148,11 +149,11 @@ module _ (s : List ℕ) (short : length s < 2 ^ 64) where
       (typed_begin TypedRegisters size g t e) (joined binds s size g w e)
 
   -- the record of every item that is yielded tells which it is
-  pub items_back : (w : State Registers) → Typed TypedRegisters w → {x : Bind} {v : State Registers} → call binds s w ≡ item x v → item_at (items.bytes x) ≡ x
+  pub items_back : (w : Walk Registers) → Typed TypedRegisters w → {x : Bind} {v : Walk Registers} → call binds s w ≡ item x v → item_at (items.bytes x) ≡ x
   items_back w t {x} e = tells x (typed_item s short w t e)
 
   -- so the records of all tell what the stream lists
-  pub listing_back : (size : ℕ) (g : Registers) → TypedRegisters g → {w : State Registers} → begin size g ≡ begun w →
+  pub listing_back : (size : ℕ) (g : Registers) → TypedRegisters g → {w : Walk Registers} → begin size g ≡ begun w →
       mapped item_at (recorded items (listing.heard (listing.listing binds size g s))) ≡ listing.heard (listing.listing binds size g s)
   listing_back size g t {w} e =
       records_back states items (Typed TypedRegisters) faithful long (call binds s) (typed_call s short) item_at (λ w t x v. items_back w t)

@@ -3,7 +3,8 @@ use Rattle.std.specs.Prelude.{ℕ, ◌*◌, ◌-◌, ◌^◌, Bool, ◌&&◌, �
 use Rattle.bind.specs.declared.Bind.{Bind}
 use Rattle.bind.specs.declared.Registers.{Registers}
 use Rattle.cursor.specs.declared.Cursor.{Cursor}
-use Rattle.listing.specs.Call.{State, state}
+use Rattle.listing.specs.Call.{state}
+use Rattle.listing.specs.declared.Walk.{Walk}
 use Rattle.packing.specs.Boundary.{States, Items}
 use Rattle.packing.specs.Fields.{flag, u8, u64, is_record, is_set, bit, unsigned_of, signed_of}
 use Rattle.packing.specs.Words.{word_at, bytes_of}
@@ -11,7 +12,7 @@ use Rattle.packing.specs.Words.{word_at, bytes_of}
 -- ---- states
 
 -- the fields in order, each by the largest value of its type and by its word
-abbrev pub state_fields : List (ℕ × (State Registers → ℕ))
+abbrev pub state_fields : List (ℕ × (Walk Registers → ℕ))
 state_fields =
     (u64, λ w. w.cursor.at)
     ∷ (u8, λ w. w.cursor.size)
@@ -27,8 +28,8 @@ state_fields =
     ∷ (u8, λ w. w.registers.segment)
     ∷ (u8, λ w. w.registers.kind)
     ∷ (u64, λ w. unsigned_of w.registers.library)
-    ∷ (u64, λ w. w.registers.place)
-    ∷ (u64, λ w. w.registers.length)
+    ∷ (u64, λ w. w.registers.name.place)
+    ∷ (u64, λ w. w.registers.name.length)
     ∷ (u8, λ w. w.registers.flags)
     ∷ (u64, λ w. unsigned_of w.registers.addend)
     ∷ []
@@ -36,7 +37,7 @@ state_fields =
 abbrev pub largest : List ℕ
 largest = map (λ f. f.0) state_fields
 
-abbrev pub state_words : State Registers → List ℕ
+abbrev pub state_words : Walk Registers → List ℕ
 state_words w = map (λ f. f.1 w) state_fields
 
 -- a signed number of 32 bits as a word
@@ -69,16 +70,15 @@ registers_at s =
       segment = word_at s 11;
       kind = word_at s 12;
       library = signed_of (word_at s 13);
-      place = word_at s 14;
-      length = word_at s 15;
+      name = record { place = word_at s 14; length = word_at s 15 };
       flags = word_at s 16;
       addend = signed_of (word_at s 17);
     }
 
-abbrev pub state_at : List ℕ → State Registers
+abbrev pub state_at : List ℕ → Walk Registers
 state_at s = state (cursor_at s) (registers_at s)
 
-abbrev pub states : States (State Registers)
+abbrev pub states : States (Walk Registers)
 states =
     record {
       long = 8 * length state_fields;
@@ -95,8 +95,8 @@ item_fields =
     ∷ (u64, λ x. x.offset)
     ∷ (u8, λ x. x.kind)
     ∷ (u64, λ x. unsigned_of x.library)
-    ∷ (u64, λ x. x.place)
-    ∷ (u64, λ x. x.length)
+    ∷ (u64, λ x. x.name.place)
+    ∷ (u64, λ x. x.name.length)
     ∷ (u8, λ x. x.flags)
     ∷ (u64, λ x. unsigned_of x.addend)
     ∷ []
@@ -112,8 +112,7 @@ item_at s =
       offset = word_at s 1;
       kind = word_at s 2;
       library = signed_of (word_at s 3);
-      place = word_at s 4;
-      length = word_at s 5;
+      name = record { place = word_at s 4; length = word_at s 5 };
       flags = word_at s 6;
       addend = signed_of (word_at s 7);
     }

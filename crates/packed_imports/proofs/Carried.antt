@@ -12,6 +12,7 @@ use Rattle.imports.specs.Call.{begin, out_of_range, call}
 use Rattle.imports.specs.Listing.{listing}
 use Rattle.imports.specs.declared.Import.{Import}
 use Rattle.imports.specs.declared.ImportWalk.{ImportWalk}
+use Rattle.numbers.specs.Strings.{part_from}
 use Rattle.packing.proofs.Back.{Each, none, word_field, flag_field, each_at, word_back, record_back, flag_back}
 use Rattle.packing.proofs.Calls.{Faithful, Long, started_say, records_back, refused_back}
 use Rattle.packing.proofs.Fields.{record_long, at_most}
@@ -99,8 +100,7 @@ module _ (x : Import) (t : TypedImport x) where
         library = (ap signed_of (item_back 0 (omega arith)) ∙ narrow_back x.library t.library) j;
         weak = (ap is_set (item_back 1 (omega arith)) ∙ flag_back x.weak) j;
         addend = (ap signed_of (item_back 2 (omega arith)) ∙ signed_back x.addend t.addend) j;
-        place = item_back 3 (omega arith) j;
-        length = item_back 4 (omega arith) j;
+        name = part_from (item_back 3 (omega arith) j) (item_back 4 (omega arith) j);
       }
 
 -- ---- calls through the entry points

@@ -2,6 +2,7 @@
 use Rattle.std.specs.Prelude.{ℕ, ◌*◌, List, [], ◌∷◌}
 use Rattle.imports.specs.declared.Import.{Import}
 use Rattle.imports.specs.declared.ImportWalk.{ImportWalk}
+use Rattle.numbers.specs.Strings.{part_from}
 use Rattle.packing.specs.Boundary.{States, Items}
 use Rattle.packing.specs.Fields.{flag, u64, is_record, is_set, bit, unsigned_of, signed_of}
 use Rattle.packing.specs.Words.{word_at, bytes_of}
@@ -36,7 +37,7 @@ states =
 -- ---- items: library, weak, addend, and the place and length of the name
 
 abbrev pub item_words : Import → List ℕ
-item_words x = unsigned_of x.library ∷ bit x.weak ∷ unsigned_of x.addend ∷ x.place ∷ x.length ∷ []
+item_words x = unsigned_of x.library ∷ bit x.weak ∷ unsigned_of x.addend ∷ x.name.place ∷ x.name.length ∷ []
 
 -- which item a record tells
 abbrev pub item_at : List ℕ → Import
@@ -45,8 +46,7 @@ item_at s =
       library = signed_of (word_at s 0);
       weak = is_set (word_at s 1);
       addend = signed_of (word_at s 2);
-      place = word_at s 3;
-      length = word_at s 4;
+      name = part_from (word_at s 3) (word_at s 4);
     }
 
 abbrev pub items : Items Import

@@ -1,7 +1,7 @@
 -- States of walks over pages in bytes, both ways; a start by the record of a segment; and what calls in a row through the entry points say.
 -- Assumes nothing.
 use Prim.Native.Nat.{ℕ, ◌*◌, ◌^◌, ◌≤◌, ◌<◌}
-use mathlib.Core.Path.{◌≡◌, refl, ap, ◌∙◌, subst}
+use mathlib.Core.Path.{◌≡◌, refl, ap, ap₂, ◌∙◌, subst}
 use mathlib.Core.Bool.{Bool, true, cond}
 use mathlib.Core.List.{List, [], ◌∷◌}
 use native.Mathlib.Omega.{arith}
@@ -29,9 +29,11 @@ use Rattle.packing.specs.Fields.{is_record, is_set, bit}
 use Rattle.packing.specs.Words.{word_at, words_from, bytes_of}
 use Rattle.pages.proofs.Joined.{joined}
 use Rattle.pages.proofs.Kept.{out_of_range_lem}
+use Rattle.pages.proofs.Marks.{due_back, linked_back, more_back}
 use Rattle.pages.proofs.Typed.{Typed, TypedFixup, typed_begin, typed_call, typed_item}
 use Rattle.pages.specs.Call.{begin, out_of_range, call}
 use Rattle.pages.specs.ChainedPointers.{rebase, bind, patch}
+use Rattle.pages.specs.Due.{linked, more, due_of}
 use Rattle.pages.specs.Listing.{listing, heard}
 use Rattle.pages.specs.declared.PageWalk.{PageWalk}
 use Rattle.pages.specs.declared.Patch.{Patch}
@@ -46,7 +48,7 @@ module _ (w : PageWalk) (t : Typed w) where
   each =
       segment_each w.segment t.segment
       (word_field (flag_field (flag_field (word_field (word_field (word_field (word_field (flag_field none
-      w.ended) t.offset) t.origin) t.chain) t.page) w.more) w.linked) t.base)
+      w.ended) t.offset) t.origin) t.chain) t.page) (more w.due)) (linked w.due)) t.base)
 
   back : (i : ℕ) → i < 16 → word_at (bytes_of (state_words w)) i ≡ get_or (state_words w) i 0
   back i h = word_back (state_words w) i h (each_at each i h)
@@ -60,12 +62,11 @@ module _ (w : PageWalk) (t : Typed w) where
       record {
         segment = segment_at_lem w.segment _ (λ i h. back i (omega arith) ∙ get_or-append (segment_words w.segment) (drop 8 (state_words w)) 0 i h) j;
         base = back 8 (omega arith) j;
-        linked = flag 9 w.linked (omega arith) refl j;
-        more = flag 10 w.more (omega arith) refl j;
         page = back 11 (omega arith) j;
         chain = back 12 (omega arith) j;
         origin = back 13 (omega arith) j;
         offset = back 14 (omega arith) j;
+        due = (ap₂ due_of (flag 9 (linked w.due) (omega arith) refl) (flag 10 (more w.due) (omega arith) refl) ∙ due_back w.due) j;
         ended = flag 15 w.ended (omega arith) refl j;
       }
 
@@ -99,8 +100,8 @@ module _ (s : List ℕ) (h : is_record s state_fields ≡ true) where
       ∷ word_at s 6
       ∷ word_at s 7
       ∷ word_at s 8
-      ∷ flag_whole (word_at s 9) (most 9 (omega arith)) j
-      ∷ flag_whole (word_at s 10) (most 10 (omega arith)) j
+      ∷ (ap bit (linked_back (is_set (word_at s 9)) (is_set (word_at s 10))) ∙ flag_whole (word_at s 9) (most 9 (omega arith))) j
+      ∷ (ap bit (more_back (is_set (word_at s 9)) (is_set (word_at s 10))) ∙ flag_whole (word_at s 10) (most 10 (omega arith))) j
       ∷ word_at s 11
       ∷ word_at s 12
       ∷ word_at s 13

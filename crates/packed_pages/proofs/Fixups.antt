@@ -1,8 +1,8 @@
 -- An item has five words, whichever fixup it is. Assumes nothing.
-use Prim.Native.Nat.{ℕ, suc, ◌*◌}
-use mathlib.Core.Path.{◌≡◌, refl, sym, ap, ◌∙◌}
+use Prim.Native.Nat.{suc}
+use mathlib.Core.Path.{◌≡◌, refl, ap}
 use lib.ListN.{length}
-use Rattle.packed_pages.specs.Packed.{fixup_words, item_words, items}
+use Rattle.packed_pages.specs.Packed.{fixup_words, item_words}
 use Rattle.pages.specs.declared.Patch.{Patch}
 use Rattle.pages.specs.declared.pointer.Fixup.{Fixup}
 use Rattle.pages.specs.declared.pointer.Fixup.TheVariants.{Rebase, Bind}
@@ -13,6 +13,3 @@ four (Bind b) = refl
 
 pub five : (x : Patch) → length (item_words x) ≡ 5
 five x = ap suc (four x.fixup)
-
-pub long : (x : Patch) {n : ℕ} → n ≡ items.long → n ≡ 8 * length (item_words x)
-long x l = l ∙ ap (λ (n : ℕ). 8 * n) (sym (five x))

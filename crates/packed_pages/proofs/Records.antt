@@ -1,23 +1,18 @@
 -- A start by the record of a segment. Assumes nothing.
 use Prim.Native.Nat.{ℕ}
-use mathlib.Core.Path.{◌≡◌, refl, ap, ◌∙◌}
+use mathlib.Core.Path.{◌≡◌, refl}
 use mathlib.Core.Bool.{Bool, true, false, cond}
 use mathlib.Core.List.{List}
 use native.Mathlib.Omega.{arith}
-use Rattle.chains.specs.declared.Segment.{Segment}
 use Rattle.packed_pages.specs.Packed.{begin_at}
 use Rattle.packed_segments.specs.Packed.{segment_fields, segment_at}
 use Rattle.packing.specs.Boundary.{unfit}
 use Rattle.packing.specs.Fields.{is_record}
 use Rattle.pages.specs.Call.{begin}
 use Rattle.pages.specs.declared.PageWalk.{PageWalk}
-use Rattle.runs.specs.Runs.{Begin, begun, not_begun}
+use Rattle.runs.specs.Runs.{begun, not_begun}
 
 module _ (s segment : List ℕ) (base : ℕ) where
-  pub record_unfit : is_record segment segment_fields ≡ false → not_begun unfit ≡ begin_at s segment base
-  unfolding begin_at
-  record_unfit e = rw e
-
   -- one that begins does so by a record
   pub record_begun : {w : PageWalk} → begin_at s segment base ≡ begun w → (is_record segment segment_fields ≡ true) × (begin s (segment_at segment) base ≡ begun w)
   unfolding begin_at
@@ -27,7 +22,3 @@ module _ (s segment : List ℕ) (base : ℕ) where
           (is_record segment segment_fields ≡ true) × (begin s (segment_at segment) base ≡ begun w)
       by true f q = (f, q)
       by false f q = let n : ◌≡◌ {A = ℕ} 0 1 = cc in absurd (omega arith)
-
-  pub record_is : {g : Segment} {b : Begin PageWalk} → b ≡ begin s g base → g ≡ segment_at segment → is_record segment segment_fields ≡ true → b ≡ begin_at s segment base
-  unfolding begin_at
-  record_is f q e = rw e (f ∙ ap (λ (g : Segment). begin s g base) q)

@@ -6,13 +6,14 @@ use Rattle.packing.specs.Fields.{flag, u64, is_record, is_set, bit}
 use Rattle.packing.specs.Words.{word_at, bytes_of}
 use Rattle.pages.specs.Call.{begin}
 use Rattle.pages.specs.ChainedPointers.{rebase, bind, patch}
+use Rattle.pages.specs.Due.{linked, more, due_of}
 use Rattle.pages.specs.declared.PageWalk.{PageWalk}
 use Rattle.pages.specs.declared.Patch.{Patch}
 use Rattle.pages.specs.declared.pointer.Fixup.{Fixup}
 use Rattle.pages.specs.declared.pointer.Fixup.TheVariants.{Rebase, Bind}
 use Rattle.runs.specs.Runs.{Begin, not_begun}
 
--- ---- states: the segment's record, then base, linked, more, page, chain, origin, offset, ended
+-- ---- states: the segment's record, then base, what is due by its two marks linked and more, page, chain, origin, offset, ended
 
 abbrev pub state_fields : List ℕ
 state_fields = segment_fields ++ (u64 ∷ flag ∷ flag ∷ u64 ∷ u64 ∷ u64 ∷ u64 ∷ flag ∷ [])
@@ -21,8 +22,8 @@ abbrev pub state_words : PageWalk → List ℕ
 state_words w =
     segment_words w.segment
     ++ (w.base
-    ∷ bit w.linked
-    ∷ bit w.more
+    ∷ bit (linked w.due)
+    ∷ bit (more w.due)
     ∷ w.page
     ∷ w.chain
     ∷ w.origin
@@ -35,12 +36,11 @@ state_at s =
     record {
       segment = segment_at s;
       base = word_at s 8;
-      linked = is_set (word_at s 9);
-      more = is_set (word_at s 10);
       page = word_at s 11;
       chain = word_at s 12;
       origin = word_at s 13;
       offset = word_at s 14;
+      due = due_of (is_set (word_at s 9)) (is_set (word_at s 10));
       ended = is_set (word_at s 15);
     }
 

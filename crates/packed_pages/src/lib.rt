@@ -2,19 +2,22 @@
 
 #![tactic(auto)]
 
-ghost use Rattle.std.specs.Prelude.{true, ◌≡◌, ◌≤◌, length};
+ghost use Rattle.std.specs.Prelude.{◌≡◌, ◌≤◌, refl};
 ghost use Rattle.packed_segments.specs.Packed.{segment_at};
-ghost use Rattle.packing.specs.Boundary.{started, step_told, stepped};
-ghost use Rattle.packing.specs.Fields.{u16, is_record};
+ghost use Rattle.packing.proofs.Fields.{record_long};
+ghost use Rattle.packing.specs.Boundary.{started, stepped};
+ghost use Rattle.packing.specs.Fields.{u16};
 ghost use Rattle.packing.specs.Words.{word_at};
 ghost use Rattle.pages.specs.Call.{call};
-ghost use Rattle.pages.specs.Told.{told};
-ghost use Rattle.packed_pages.specs.Packed.{state_fields, state_words, state_at, states, begin_at, item_words, items};
+ghost use Rattle.pages.specs.Due.{linked, more, due_of};
+ghost use Rattle.packed_pages.specs.Packed.{state_fields, states, begin_at, items};
 
 use chains::Segment;
-use packing::{bit, is_record, report, word, write};
+use packing::walks::Layout;
+use packing::{bit, is_record, word};
 use pages::pointer::Fixup;
-use pages::{PageStart, PageStep, PageWalk, Patch};
+use pages::{Due, PageWalk, Patch};
+use refusal::Refusal;
 
 // The largest value of each field of a segment's record.
 const SEGMENT: [u64; 8] = [
@@ -49,100 +52,111 @@ const FIELDS: [u64; 16] = [
 ];
 
 // A walk over the fixups of a segment, by its record, begins.
+#[tactic(auto, unfolding(crate::specs::Packed::begin_at))]
 pub fn start(s: &[u8], segment: &[u8], base: u64, state: &mut [u8]) -> u64
     ensures { (result, state.new) ≡ started states state.old (begin_at s.now segment.now base) }
 {
-    if state.len() != 128 {
-        return 19;
+    if !is_record(segment, &SEGMENT) {
+        return Packed::begin(Err(Refusal::StateOutOfRange), state);
     }
-    if is_record(segment, &SEGMENT) {
-        match PageWalk::start(s, held_segment(segment), base) {
-            PageStart::Begun(w) => {
-                write(&words(w), state);
-                return 0;
-            }
-            PageStart::Refused(e) => {
-                return e.number() as u64;
-            }
-        }
-    }
-    19
+    Packed::begin(PageWalk::start(s, held_segment(segment), base), state)
 }
 
 // One call of the walk.
 pub fn step(s: &[u8], contents: &[u8], state: &mut [u8], item: &mut [u8]) -> u64
     ensures { (result, state.new, item.new) ≡ stepped states items state.old item.old (call s.now contents.now) }
 {
-    if item.len() != 40 {
-        return 19;
-    }
-    if is_record(state, &FIELDS) {
-        return tell(held(state).step(s, contents), state, item);
-    }
-    19
+    Packed::step(|w| w.step(s, contents), state, item)
 }
 
-fn tell(answer: PageStep, state: &mut [u8], item: &mut [u8]) -> u64
-    requires state_len { length state.old ≡ 128 }
-    requires item_len { length item.old ≡ 40 }
-    ensures { (result, state.new, item.new) ≡ step_told states items (told answer) }
+// How the walk crosses.
+struct Packed;
+
+impl Layout<16, 5> for Packed {
+    type Walk = PageWalk;
+
+    type Item = Patch;
+
+    ghost states = { states };
+
+    ghost items = { items };
+
+    fn state(w: PageWalk) -> [u64; 16] {
+        let g = w.segment;
+        let (linked, more) = marks(w.due);
+        [
+            g.index,
+            u64::from(g.page_size),
+            u64::from(g.pointer_format),
+            g.segment_offset,
+            g.max_valid_pointer,
+            u64::from(g.page_count),
+            g.place as u64,
+            g.count,
+            w.base,
+            bit(linked),
+            bit(more),
+            w.page,
+            w.chain,
+            w.origin,
+            w.offset,
+            bit(w.ended),
+        ]
+    }
+
+    fn item(x: Patch) -> [u64; 5] {
+        match x.fixup {
+            Fixup::Rebase(r) => [x.place, 0, r.target, 0, 0],
+            Fixup::Bind(b) => [x.place, 1, 0, b.ordinal, b.addend],
+        }
+    }
+
+    fn held(s: &[u8]) -> Option<PageWalk> {
+        if !is_record(s, &FIELDS) {
+            return None;
+        }
+        Some(PageWalk {
+            segment: held_segment(s),
+            base: word(s, 8),
+            due: due_of(word(s, 9) == 1, word(s, 10) == 1),
+            page: word(s, 11),
+            chain: word(s, 12),
+            origin: word(s, 13),
+            offset: word(s, 14),
+            ended: word(s, 15) == 1,
+        })
+    }
+
+    ghost state_long = { refl };
+
+    ghost held_long = { λ s h. record_long state_fields s h refl };
+
+    ghost item_long = { refl };
+
+    ghost blank = { refl };
+}
+
+// What is due as the two flags of a state: whether a pointer is, and whether a chain is, behind it or at once.
+fn marks(due: Due) -> (bool, bool)
+    ensures { result ≡ (linked due, more due) }
 {
-    match answer {
-        PageStep::Item(w, x) => report(0, &words(w), &item_words(x), state, item),
-        PageStep::End(w) => report(256, &words(w), &[0; 5], state, item),
-        PageStep::Refused(w, e) => report(e.number() as u64, &words(w), &[0; 5], state, item),
+    match due {
+        Due::NextPage => (false, false),
+        Due::NextChain => (false, true),
+        Due::PointerThenPage => (true, false),
+        Due::PointerThenChain => (true, true),
     }
 }
 
-fn words(w: PageWalk) -> [u64; 16]
-    ensures { result ≡ state_words w }
+// What is due by the two flags.
+fn due_of(linked: bool, more: bool) -> Due
+    ensures { result ≡ due_of linked more }
 {
-    let g = w.segment;
-    [
-        g.index,
-        g.page_size as u64,
-        g.pointer_format as u64,
-        g.segment_offset,
-        g.max_valid_pointer,
-        g.page_count as u64,
-        g.place as u64,
-        g.count,
-        w.base,
-        bit(w.linked),
-        bit(w.more),
-        w.page,
-        w.chain,
-        w.origin,
-        w.offset,
-        bit(w.ended),
-    ]
-}
-
-fn item_words(x: Patch) -> [u64; 5]
-    ensures { result ≡ item_words x }
-{
-    let place = x.place;
-    let fixup = x.fixup;
-    match fixup {
-        Fixup::Rebase(r) => [place, 0, r.target, 0, 0],
-        Fixup::Bind(b) => [place, 1, 0, b.ordinal, b.addend],
-    }
-}
-
-fn held(s: &[u8]) -> PageWalk
-    requires { is_record s.now state_fields ≡ true }
-    ensures { result ≡ state_at s.now }
-{
-    PageWalk {
-        segment: held_segment(s),
-        base: word(s, 8),
-        linked: word(s, 9) == 1,
-        more: word(s, 10) == 1,
-        page: word(s, 11),
-        chain: word(s, 12),
-        origin: word(s, 13),
-        offset: word(s, 14),
-        ended: word(s, 15) == 1,
+    match (linked, more) {
+        (false, false) => Due::NextPage,
+        (false, true) => Due::NextChain,
+        (true, false) => Due::PointerThenPage,
+        (true, true) => Due::PointerThenChain,
     }
 }
 

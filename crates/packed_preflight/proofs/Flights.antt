@@ -1,104 +1,74 @@
--- A preflight at the boundary, by what its parts answered: for `search`. Assumes nothing.
-use Prim.Native.Nat.{ℕ, ◌-◌, ◌/◌, ◌%◌, ◌≤◌, ◌<◌}
-use mathlib.Core.Path.{◌≡◌, sym, ap, ◌∙◌}
-use mathlib.Core.Bool.{Bool, cond}
+-- A preflight at the boundary, by what its parts answered. Assumes nothing.
+use Prim.Native.Nat.{ℕ, ◌+◌, ◌/◌, ◌%◌, ◌<◌, min}
+use mathlib.Core.Path.{◌≡◌, refl, sym, ap, ◌∙◌}
 use mathlib.Core.List.{List}
 use native.Mathlib.Decide.{dec_lt}
 use native.Mathlib.Omega.{arith}
-use borrow.Author.Tests.{lt-ltb, le-ltb, lt-leb, eq-eqb, ne_eqb}
-use lib.ListN.{length, take}
-use Rattle.bind.specs.Binds.{plainly, weakly, lazily, binds}
-use Rattle.cursor.specs.Cursor.{is_pointer_size}
+use borrow.Author.Tests.{lt-leb, eq-eqb, ne_eqb}
+use lib.ListN.{length, take, get_or}
 use Rattle.listing.proofs.Starts.{no_size}
 use Rattle.listing.specs.Machine.{Machine}
-use Rattle.packing.specs.Boundary.{unfit}
+use Rattle.packing.proofs.Boundary.{two}
+use Rattle.packing.proofs.Crossing.{overwrites}
+use Rattle.packing.proofs.Whole.{words_back}
 use Rattle.packing.proofs.Words.{length-words, take_words}
-use Rattle.packing.specs.Words.{words_from}
-use Rattle.packed_preflight.specs.Packed.{sizes_of, fewer, verdict_told, flown, flight_of}
-use Rattle.packed_preflight.specs.declared.Flight.{Flight}
-use Rattle.packed_preflight.specs.declared.Flight.TheVariants.{Rebases, PlainBinds, WeakBinds, LazyBinds}
+use Rattle.packing.specs.Boundary.{unfit}
+use Rattle.packing.specs.Words.{words_from, word_at, bytes_of, written}
+use Rattle.packed_preflight.specs.Packed.{sizes_of, verdict_told, flown, IsPreflight}
 use Rattle.preflight.specs.Told.{told}
-use Rattle.preflight.specs.declared.Verdict as code
-use Rattle.preflight.specs.Verdict.{Verdict, fault, with_sizes, preflight}
-use Rattle.rebase.specs.Rebases.{unset, rebases}
-use Rattle.refusal.specs.Numbers.{number_of}
-use Rattle.refusal.specs.declared.Refusal.TheVariants.{PointerSize, UnfitSizes}
+use Rattle.preflight.specs.Verdict.{Verdict, with_sizes, preflight}
+use Rattle.preflight.specs.declared.Fault.{Fault}
+use Rattle.std.specs.Prelude.{Result}
 
--- what holds of the preflight of every machine, from every start, holds of each of the four
-by_flight : (P : (ℕ → List ℕ → List ℕ → Verdict) → Type 0) →
-    ((M : Machine) (start : M.Reg) → P (preflight M start)) → (f : Flight) → P (flight_of f)
-by_flight P h Rebases = h rebases unset
-by_flight P h PlainBinds = h binds plainly
-by_flight P h WeakBinds = h binds weakly
-by_flight P h LazyBinds = h binds lazily
+-- the preflight of every machine, from every start, is one
+pub is_preflight : {Op Reg Item : Type 0} (M : Machine Op Reg Item) (start : Reg) → IsPreflight (preflight M start)
+unfolding preflight with_sizes
+is_preflight M start =
+    record {
+      large = λ size sizes s h. rw (no_size h);
+      many = λ size some others s h k. rw (lt-leb (length some) 16 h, lt-leb (length others) 16 k);
+    }
 
-module _ (f : Flight) (size : ℕ) (sizes s : List ℕ) where
-  -- a number that is no u8 is no pointer size
-  pub no_flight : 255 < size → fault (number_of PointerSize) 0 0 ≡ flight_of f size (sizes_of sizes) s
-  unfolding preflight
-  no_flight h =
-      by_flight (λ g. fault (number_of PointerSize) 0 0 ≡ g size (sizes_of sizes) s) (λ M start. rw (no_size h)) f
+-- the first words, read one by one
+pub reads_each : (s words : List ℕ) (n : ℕ) → length words ≡ n → ((i : ℕ) → i < n → get_or words i 0 ≡ word_at s i) → words ≡ words_from s 0 n
+reads_each s words n l h =
+    sym (words_back s words 0 (λ i k. let z : 0 + i ≡ i = omega arith in ap (word_at s) z ∙ sym (h i (omega (arith, l)))))
+    ∙ ap (words_from s 0) l
 
-  -- more than 16 sizes are refused, whatever they are
-  many : (M : Machine) (start : M.Reg) (n : ℕ) → 16 < n → preflight M start size (words_from sizes 0 n) s
-      ≡ cond (is_pointer_size size) (fault (number_of UnfitSizes) 0 0) (fault (number_of PointerSize) 0 0)
-  unfolding preflight with_sizes
-  many M start n h = rw (length-words sizes 0 n, lt-leb n 16 h)
-
-  -- so the verdict is the one on those that are read
-  module _ {words : List ℕ} (read : words ≡ words_from sizes 0 17) {v : Verdict} where
-    flies_many : v ≡ flight_of f size (take 17 words) s → 17 ≤ length sizes / 8 → v ≡ flight_of f size (sizes_of sizes) s
-    flies_many e h =
-        e
-        ∙ ap (λ (zs : List ℕ). flight_of f size zs s) (ap (take 17) read ∙ take_words sizes 0 17 17 (omega arith))
-        ∙ by_flight (λ g. g size (words_from sizes 0 17) s ≡ g size (sizes_of sizes) s)
-        (λ M start. many M start 17 (omega arith) ∙ sym (many M start (length sizes / 8) (omega arith))) f
-
-    flies_few : v ≡ flight_of f size (take (length sizes / 8) words) s → length sizes / 8 < 17 →
-        v ≡ flight_of f size (sizes_of sizes) s
-    flies_few e h =
-        e
-        ∙ ap (λ (zs : List ℕ). flight_of f size zs s)
-        (ap (take (length sizes / 8)) read ∙ take_words sizes 0 (length sizes / 8) 17 (omega arith))
-
-    pub flies : {count : ℕ} → v ≡ flight_of f size (take (count - 0) words) s → count ≡ fewer (length sizes / 8) →
-        v ≡ flight_of f size (sizes_of sizes) s
-    flies {count} e c =
-        let z : count - 0 ≡ count = omega arith in
-        let q : v ≡ flight_of f size (take (fewer (length sizes / 8)) words) s =
-        e ∙ ap (λ (n : ℕ). flight_of f size (take n words) s) (z ∙ c) in
-        elim (dec_lt (length sizes / 8) 17) [
-          | yes h ↦
-              flies_few (q ∙ ap (λ (b : Bool). flight_of f size (take (cond b (length sizes / 8) 17) words) s)
-              (lt-ltb (length sizes / 8) 17 h)) h
-          | no h ↦
-              flies_many (q ∙ ap (λ (b : Bool). flight_of f size (take (cond b (length sizes / 8) 17) words) s)
-              (le-ltb (length sizes / 8) 17 (omega arith))) (omega arith)
-        ]
-
--- one that is known
-pub flies_as : {f g : Flight} (size : ℕ) (sizes s : List ℕ) {v : Verdict} →
-    f ≡ g → v ≡ flight_of g size sizes s → v ≡ flight_of f size sizes s
-flies_as size sizes s e h = h ∙ ap (λ (k : Flight). flight_of k size sizes s) (sym e)
+module _ {flight : ℕ → List ℕ → List ℕ → Verdict} (is : IsPreflight flight) (size : ℕ) (sizes s : List ℕ) where
+  -- of more than sixteen sizes, seventeen say what all say
+  pub flies : {v : Verdict} (n : ℕ) (words : List ℕ) → words ≡ words_from sizes 0 17 → n ≡ min (length sizes / 8) 17 →
+      v ≡ flight size (take n words) s → v ≡ flight size (sizes_of sizes) s
+  flies {v} n words e q f =
+      let k : ℕ = length sizes / 8 in
+      let read : v ≡ flight size (words_from sizes 0 n) s =
+      f ∙ ap (λ (zs : List ℕ). flight size zs s) (ap (take n) e ∙ take_words sizes 0 n 17 (omega arith)) in
+      elim (dec_lt k 17) [
+        | yes h ↦ let m : n ≡ k = omega arith in read ∙ ap (λ (i : ℕ). flight size (words_from sizes 0 i) s) m
+        | no h ↦
+            read
+            ∙ is.many size (words_from sizes 0 n) (sizes_of sizes) s (omega (arith, length-words sizes 0 n)) (omega (arith, length-words sizes 0 k))
+      ]
 
 -- ---- what is lent, and what is written
 
 module _ (flight : ℕ → List ℕ → List ℕ → Verdict) (s : List ℕ) (size : ℕ) (sizes verdict : List ℕ) where
-  pub verdict_unfit : (length verdict ≡ 16 → ⊥) →
-      ◌≡◌ {A = ℕ × List ℕ} (unfit, verdict) (flown flight s size sizes verdict)
+  pub verdict_unfit : {r : ℕ} → r ≡ unfit → (length verdict ≡ 16 → ⊥) → ◌≡◌ {A = ℕ × List ℕ} (r, verdict) (flown flight s size sizes verdict)
   unfolding flown
-  verdict_unfit h = rw (ne_eqb (length verdict) 16 h)
+  verdict_unfit e h = two e refl ∙ rw (ne_eqb (length verdict) 16 h)
 
   module _ (l : length verdict ≡ 16) where
-    pub sizes_unfit : (length sizes % 8 ≡ 0 → ⊥) →
-        ◌≡◌ {A = ℕ × List ℕ} (unfit, verdict) (flown flight s size sizes verdict)
+    pub sizes_unfit : {r : ℕ} → r ≡ unfit → (length sizes % 8 ≡ 0 → ⊥) → ◌≡◌ {A = ℕ × List ℕ} (r, verdict) (flown flight s size sizes verdict)
     unfolding flown
-    sizes_unfit h = rw (eq-eqb (length verdict) 16 l, ne_eqb (length sizes % 8) 0 h)
+    sizes_unfit e h = two e refl ∙ rw (eq-eqb (length verdict) 16 l, ne_eqb (length sizes % 8) 0 h)
 
-    pub flown_as : {v : Verdict} {y : ℕ × List ℕ} → length sizes % 8 ≡ 0 →
+    pub flown_as : (v : Verdict) {y : ℕ × List ℕ} → length sizes % 8 ≡ 0 →
         y ≡ verdict_told v → v ≡ flight size (sizes_of sizes) s → y ≡ flown flight s size sizes verdict
     unfolding flown
-    flown_as h e q = rw (eq-eqb (length verdict) 16 l, eq-eqb (length sizes % 8) 0 h) (e ∙ ap verdict_told q)
+    flown_as v h e q = rw (eq-eqb (length verdict) 16 l, eq-eqb (length sizes % 8) 0 h) (e ∙ ap verdict_told q)
 
-pub tells : {v q : code.Verdict} {y : ℕ × List ℕ} → v ≡ q → y ≡ verdict_told (told q) → y ≡ verdict_told (told v)
-tells e f = f ∙ ap (λ (x : code.Verdict). verdict_told (told x)) (sym e)
+pub tells : {v q : Result ℕ Fault} {number : ℕ} {s : List ℕ} (words verdict : List ℕ) → v ≡ q → length verdict ≡ 16 → length words ≡ 2 →
+    s ≡ written words verdict → ◌≡◌ {A = ℕ × List ℕ} (number, bytes_of words) (verdict_told (told q)) →
+    ◌≡◌ {A = ℕ × List ℕ} (number, s) (verdict_told (told v))
+tells words verdict e l k f g =
+    two refl (overwrites 2 words verdict k l refl f) ∙ g ∙ ap (λ (x : Result ℕ Fault). verdict_told (told x)) (sym e)

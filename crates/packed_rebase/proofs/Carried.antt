@@ -9,7 +9,8 @@ use Rattle.cursor.specs.Cursor.{in_range}
 use Rattle.listing.proofs.Joined.{joined}
 use Rattle.listing.proofs.Kept.{out_of_range}
 use Rattle.listing.proofs.Typed.{Typed, typed_begin}
-use Rattle.listing.specs.Call.{State, state, begin, call}
+use Rattle.listing.specs.Call.{begin, call}
+use Rattle.listing.specs.declared.Walk.{Walk}
 use Rattle.listing.specs.Listing as listing
 use Rattle.packing.proofs.Back.{Each, none, word_field, byte_field, flag_field, each_at, word_back, record_back, flag_back}
 use Rattle.packing.proofs.Calls.{Faithful, Long, started_say, records_back, refused_back}
@@ -30,7 +31,7 @@ use Rattle.runs.specs.Runs.{begun, item, mapped, Walks}
 
 -- ---- a state whose fields are such as their types have comes back from its bytes whole
 
-module _ (w : State Registers) (t : Typed TypedRegisters w) where
+module _ (w : Walk Registers) (t : Typed TypedRegisters w) where
   each : Each (state_words w) largest
   each =
       let c = t.cursor in
@@ -102,7 +103,7 @@ module _ (x : Rebase) (t : TypedRebase x) where
 
 module _ (s : List ℕ) (short : length s < 2 ^ 64) where
   -- from a start on they say what the stream lists
-  pub calls_list : (size : ℕ) {w : State Registers} → begin size unset ≡ begun w →
+  pub calls_list : (size : ℕ) {w : Walk Registers} → begin size unset ≡ begun w →
       (state item : List ℕ) → length state ≡ states.long → length item ≡ items.long →
       Walks (through states items (call rebases s)) (lent (started states state (begin size unset)).1 item)
       (recorded items (listing.heard (listing.listing rebases size unset s)))
@@ -111,11 +112,11 @@ module _ (s : List ℕ) (short : length s < 2 ^ 64) where
       (typed_begin TypedRegisters size unset typed_unset e) (joined rebases s size unset w e)
 
   -- the record of every item that is yielded tells which it is
-  pub items_back : (w : State Registers) → Typed TypedRegisters w → {x : Rebase} {v : State Registers} → call rebases s w ≡ item x v → item_at (items.bytes x) ≡ x
+  pub items_back : (w : Walk Registers) → Typed TypedRegisters w → {x : Rebase} {v : Walk Registers} → call rebases s w ≡ item x v → item_at (items.bytes x) ≡ x
   items_back w t {x} e = tells x (typed_item s short w t e)
 
   -- so the records of all tell what the stream lists
-  pub listing_back : (size : ℕ) {w : State Registers} → begin size unset ≡ begun w →
+  pub listing_back : (size : ℕ) {w : Walk Registers} → begin size unset ≡ begun w →
       mapped item_at (recorded items (listing.heard (listing.listing rebases size unset s))) ≡ listing.heard (listing.listing rebases size unset s)
   listing_back size {w} e =
       records_back states items (Typed TypedRegisters) faithful long (call rebases s) (typed_call s short) item_at (λ w t x v. items_back w t)

@@ -1,6 +1,7 @@
 -- Rebase walks at the boundary: a state and an item in words.
 use Rattle.std.specs.Prelude.{ℕ, ◌*◌, List, [], ◌∷◌, map, length}
-use Rattle.listing.specs.Call.{State, state}
+use Rattle.listing.specs.Call.{state}
+use Rattle.listing.specs.declared.Walk.{Walk}
 use Rattle.packing.specs.Boundary.{States, Items}
 use Rattle.packing.specs.Fields.{flag, u8, u64, is_record, is_set, bit}
 use Rattle.packing.specs.Words.{word_at, bytes_of}
@@ -10,7 +11,7 @@ use Rattle.rebase.specs.declared.Registers.{Registers}
 -- ---- states
 
 -- the fields in order, each by the largest value of its type and by its word
-abbrev pub state_fields : List (ℕ × (State Registers → ℕ))
+abbrev pub state_fields : List (ℕ × (Walk Registers → ℕ))
 state_fields =
     (u64, λ w. w.cursor.at)
     ∷ (u8, λ w. w.cursor.size)
@@ -27,10 +28,10 @@ state_fields =
 abbrev pub largest : List ℕ
 largest = map (λ f. f.0) state_fields
 
-abbrev pub state_words : State Registers → List ℕ
+abbrev pub state_words : Walk Registers → List ℕ
 state_words w = map (λ f. f.1 w) state_fields
 
-abbrev pub state_at : List ℕ → State Registers
+abbrev pub state_at : List ℕ → Walk Registers
 state_at s =
     state
     (record {
@@ -48,7 +49,7 @@ state_at s =
       kind = word_at s 9;
     })
 
-abbrev pub states : States (State Registers)
+abbrev pub states : States (Walk Registers)
 states =
     record {
       long = 8 * length state_fields;

@@ -2,29 +2,21 @@
 
 #![tactic(auto)]
 
-ghost use Rattle.std.specs.Prelude.{true, ◌≡◌, length};
+ghost use Rattle.std.specs.Prelude.{◌≡◌, refl};
 ghost use Rattle.listing.specs.Call.{begin, call};
-ghost use Rattle.packing.specs.Boundary.{started, step_told, stepped};
-ghost use Rattle.packing.specs.Fields.{is_record};
+ghost use Rattle.packing.proofs.Fields.{record_long};
+ghost use Rattle.packing.specs.Boundary.{started, stepped};
 ghost use Rattle.rebase.specs.Rebases.{unset, rebases};
-ghost use Rattle.rebase.specs.Told.{view, told};
-ghost use Rattle.packed_rebase.specs.Packed.{largest, state_words, state_at, states, items};
+ghost use Rattle.packed_rebase.specs.Packed.{largest, states, items};
 
 use cursor::Cursor;
-use packing::{bit, is_record, report, word, write};
-use rebase::{Rebase, RebaseStart, RebaseStep, RebaseWalk, Registers};
+use packing::walks::Layout;
+use packing::{bit, is_record, pointer_size, word};
+use rebase::{Rebase, RebaseStarts, RebaseWalk, Registers};
 
-// The words of a state and of an item, and their bytes.
-const STATE: usize = 10;
-
-const STATE_BYTES: usize = 8 * STATE;
-
-const ITEM: usize = 3;
-
-const ITEM_BYTES: usize = 8 * ITEM;
-
-// The largest value of each field of a state.
-const FIELDS: [u64; STATE] = [
+// The largest value of each field of a state: a table, by which `is_record` tests the words. What it passes fits
+// the fields, so the casts below lose nothing.
+const FIELDS: [u64; 10] = [
     u64::MAX,
     255,
     u64::MAX,
@@ -41,89 +33,76 @@ const FIELDS: [u64; STATE] = [
 pub fn start(size: u64, state: &mut [u8]) -> u64
     ensures { (result, state.new) ≡ started states state.old (begin size unset) }
 {
-    if state.len() != STATE_BYTES {
-        return 19;
-    }
-    if size > 255 {
-        return 1;
-    }
-    match RebaseWalk::start(size as u8) {
-        RebaseStart::Begun(w) => {
-            write(&words(w), state);
-            0
-        }
-        RebaseStart::Refused(e) => e.number() as u64,
-    }
+    Packed::begin(pointer_size(size).and_then(RebaseWalk::start), state)
 }
 
 // One call of the walk.
 pub fn step(s: &[u8], state: &mut [u8], item: &mut [u8]) -> u64
     ensures { (result, state.new, item.new) ≡ stepped states items state.old item.old (call rebases s.now) }
 {
-    if item.len() != ITEM_BYTES {
-        return 19;
-    }
-    if is_record(state, &FIELDS) {
-        return tell(held(state).step(s), state, item);
-    }
-    19
+    Packed::step(|w| w.step(s), state, item)
 }
 
-fn tell(answer: RebaseStep, state: &mut [u8], item: &mut [u8]) -> u64
-    requires state_len { length state.old ≡ states.long }
-    requires item_len { length item.old ≡ items.long }
-    ensures { (result, state.new, item.new) ≡ step_told states items (told answer) }
-{
-    match answer {
-        RebaseStep::Item(w, x) => report(
-            0,
-            &words(w),
-            &[x.segment as u64, x.offset, x.kind as u64],
-            state,
-            item,
-        ),
-        RebaseStep::End(w) => report(256, &words(w), &[0; ITEM], state, item),
-        RebaseStep::Refused(w, e) => report(e.number() as u64, &words(w), &[0; ITEM], state, item),
-    }
-}
+struct Packed;
 
-fn words(w: RebaseWalk) -> [u64; STATE]
-    ensures { result ≡ state_words (view w) }
-{
-    let c = w.cursor;
-    let g = w.registers;
-    [
-        c.at as u64,
-        c.size as u64,
-        c.remaining,
-        c.advance,
-        c.offset,
-        bit(c.ended),
-        bit(g.segmented),
-        bit(g.typed),
-        g.segment as u64,
-        g.kind as u64,
-    ]
-}
+impl Layout<10, 3> for Packed {
+    type Walk = RebaseWalk;
 
-fn held(s: &[u8]) -> RebaseWalk
-    requires { is_record s.now largest ≡ true }
-    ensures { view result ≡ state_at s.now }
-{
-    RebaseWalk {
-        cursor: Cursor {
-            at: word(s, 0) as usize,
-            size: word(s, 1) as u8,
-            remaining: word(s, 2),
-            advance: word(s, 3),
-            offset: word(s, 4),
-            ended: word(s, 5) == 1,
-        },
-        registers: Registers {
-            segmented: word(s, 6) == 1,
-            typed: word(s, 7) == 1,
-            segment: word(s, 8) as u8,
-            kind: word(s, 9) as u8,
-        },
+    type Item = Rebase;
+
+    ghost states = { states };
+
+    ghost items = { items };
+
+    fn state(w: RebaseWalk) -> [u64; 10] {
+        let c = w.cursor;
+        let g = w.registers;
+        [
+            c.at as u64,
+            u64::from(c.size),
+            c.remaining,
+            c.advance,
+            c.offset,
+            bit(c.ended),
+            bit(g.segmented),
+            bit(g.typed),
+            u64::from(g.segment),
+            u64::from(g.kind),
+        ]
     }
+
+    fn item(x: Rebase) -> [u64; 3] {
+        [u64::from(x.segment), x.offset, u64::from(x.kind)]
+    }
+
+    // (The first six words are those of a cursor, in both streams' records: `packing` knows no cursor.)
+    fn held(s: &[u8]) -> Option<RebaseWalk> {
+        if !is_record(s, &FIELDS) {
+            return None;
+        }
+        Some(RebaseWalk {
+            cursor: Cursor {
+                at: word(s, 0) as usize,
+                size: word(s, 1) as u8,
+                remaining: word(s, 2),
+                advance: word(s, 3),
+                offset: word(s, 4),
+                ended: word(s, 5) == 1,
+            },
+            registers: Registers {
+                segmented: word(s, 6) == 1,
+                typed: word(s, 7) == 1,
+                segment: word(s, 8) as u8,
+                kind: word(s, 9) as u8,
+            },
+        })
+    }
+
+    ghost state_long = { refl };
+
+    ghost held_long = { λ s h. record_long largest s h refl };
+
+    ghost item_long = { refl };
+
+    ghost blank = { refl };
 }

@@ -11,7 +11,7 @@ use lib.ListN.{length, take, drop, get_or, length-append, length-drop, get_or-ap
 use lib.Seq.{take-append-le, drop-append-le, drop_at, get_or-append-add}
 use Rattle.numbers.specs.Digits.{from_digits}
 use Rattle.numbers.specs.LittleEndian.{little_endian, field_at}
-use Rattle.numbers.specs.Then.{then_number}
+use Rattle.numbers.specs.Then.{then}
 use Rattle.packed_trie.proofs.Steps.{by_state}
 use Rattle.packed_trie.specs.Packed.{most, places, offsets, lengths, left, state_long, state_words, state_bytes, state_at, holds, item_long, step_told, stepped}
 use Rattle.packing.proofs.Back.{word_back, flag_back}
@@ -25,7 +25,7 @@ use Rattle.trie.specs.declared.TrieWalk.{TrieWalk}
 
 -- what stands behind a word does not matter
 word_front : (s t : List ℕ) (i : ℕ) → 8 * i + 8 ≤ length s → word_at (s ++ t) i ≡ word_at s i
-unfolding word_at field_at then_number little_endian
+unfolding word_at field_at then little_endian
 word_front s t i h =
     let part : take 8 (drop (8 * i) (s ++ t)) ≡ take 8 (drop (8 * i) s) =
     ap (take 8) (drop-append-le (8 * i) s t (omega arith)) ∙ take-append-le 8 (drop (8 * i) s) t (omega (arith, length-drop (8 * i) s)) in

@@ -1,23 +1,15 @@
 -- The bytes of a state, tested. Assumes nothing.
 use Prim.Native.Nat.{ℕ, ◌≤◌}
-use mathlib.Core.Path.{◌≡◌, ap}
-use mathlib.Core.Bool.{true, false, and-eq-true_iff}
+use mathlib.Core.Path.{◌≡◌}
+use mathlib.Core.Bool.{true, and-eq-true_iff}
 use mathlib.Core.List.{List}
-use borrow.Author.Tests.{eq-eqb, ne_eqb, leb-true, eqb-true}
+use borrow.Author.Tests.{leb-true, eqb-true}
 use lib.Dec.{eqb, leb}
 use lib.ListN.{length}
 use Rattle.packing.specs.Words.{word_at}
 use Rattle.packed_trie.specs.Packed.{state_long, holds}
 
 module _ (s : List ℕ) where
-  pub other_length : (length s ≡ state_long → ⊥) → false ≡ holds s
-  unfolding holds
-  other_length h = rw (ne_eqb (length s) state_long h)
-
-  pub by_flag : length s ≡ state_long → {v : ℕ} → v ≡ word_at s 1 → leb v 1 ≡ holds s
-  unfolding holds
-  by_flag l e = rw (eq-eqb (length s) state_long l) (ap (λ (n : ℕ). leb n 1) e)
-
   module _ (e : holds s ≡ true) where
     parts : eqb (length s) state_long ≡ true × leb (word_at s 1) 1 ≡ true
     unfolding holds

@@ -1,4 +1,4 @@
--- Words and bytes written one part behind the other, and a state that is read: for `search`. Assumes nothing.
+-- Words and bytes written one part behind the other, and a state that is read. Assumes nothing.
 use Prim.Native.Nat.{ℕ, suc, ◌+◌, ◌-◌, ◌*◌, ◌≤◌}
 use mathlib.Core.Path.{◌≡◌, refl, sym, ap, ◌∙◌}
 use mathlib.Core.List.{List, [], ◌∷◌, ◌++◌, append_assoc, append-nil}

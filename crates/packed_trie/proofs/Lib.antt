@@ -1,5 +1,3 @@
-mod Turns
-mod Tells
 mod Flags
 mod Kept
 mod Steps

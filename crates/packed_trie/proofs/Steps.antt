@@ -1,24 +1,18 @@
--- A start and a step at the boundary, by what their parts answered: for `search`. Assumes nothing.
+-- A step at the boundary, by what its parts answered. Assumes nothing.
 use Prim.Native.Nat.{ℕ, ◌*◌}
 use mathlib.Core.Path.{◌≡◌, refl, sym, ap, ◌∙◌}
-use mathlib.Core.Bool.{Bool, true, false, cond}
+use mathlib.Core.Bool.{Bool, true, cond}
 use mathlib.Core.List.{List}
 use native.Mathlib.Omega.{arith}
-use borrow.Author.Tests.{eq-eqb, ne_eqb}
+use borrow.Author.Tests.{eq-eqb}
 use lib.ListN.{length}
-use Rattle.packed_trie.specs.Packed.{most, state_long, state_bytes, holds, state_at, states, target_words, item_words, item_long, answer_told, step_told, stepped}
-use Rattle.packing.proofs.Boundary.{over, two, begins}
-use Rattle.packing.specs.Boundary.{item_told, unfit, started}
+use Rattle.packed_trie.specs.Packed.{most, state_bytes, holds, state_at, target_words, item_words, item_long, answer_told, step_told, stepped}
+use Rattle.packing.proofs.Boundary.{over}
+use Rattle.packing.specs.Boundary.{unfit}
 use Rattle.packing.specs.Words.{written}
-use Rattle.runs.specs.Runs.{begun}
-use Rattle.trie.specs.Call.{at_start, Answer, export, more, end, refused, Reply, seen, call}
+use Rattle.trie.specs.Call.{Answer, export, more, end, refused, Reply, seen, call}
 use Rattle.nodes.specs.Exported.{Target, regular, reexport, stub_and_resolver}
 use Rattle.trie.specs.declared.TrieWalk.{TrieWalk}
-
--- ---- a start
-
-pub begins_at : (state : List ℕ) {w : TrieWalk} {t : List ℕ} → length state ≡ state_long → w ≡ at_start most → t ≡ state_bytes w → ◌≡◌ {A = ℕ × List ℕ} (item_told, t) (started states state (begun (at_start most)))
-begins_at state l e f = begins states begun state l refl (ap begun e) (two refl f)
 
 -- ---- a step
 
@@ -35,17 +29,10 @@ nine visits end = refl
 nine visits (refused n) = refl
 
 module _ (s : List ℕ) (limit : ℕ) (state name item : List ℕ) where
-  pub item_unfit : (length item ≡ item_long → ⊥) → ◌≡◌ {A = ℕ × List ℕ × List ℕ × List ℕ} (unfit, state, name, item) (stepped s limit state name item)
-  unfolding stepped
-  item_unfit h = rw (ne_eqb (length item) item_long h)
-
   module _ (l : length item ≡ item_long) where
     pub by_state : {b : Bool} → holds state ≡ b → stepped s limit state name item ≡ cond b (step_told (seen (call most s limit (state_at state) name))) (unfit, state, name, item)
     unfolding stepped
     by_state e = rw (eq-eqb (length item) item_long l, e)
-
-    pub state_unfit : holds state ≡ false → ◌≡◌ {A = ℕ × List ℕ × List ℕ × List ℕ} (unfit, state, name, item) (stepped s limit state name item)
-    state_unfit e = sym (by_state e)
 
     module _ (h : holds state ≡ true) {w : TrieWalk} (e : w ≡ state_at state) {r : Reply} {b : List ℕ} (f : ◌≡◌ {A = Reply × List ℕ} (r, b) (seen (call most s limit w name))) where
       pub stepped_as : {n : ℕ} {t ws i : List ℕ} → t ≡ state_bytes r.walk → i ≡ written ws item → ws ≡ item_words r.visits r.answer → n ≡ answer_told r.answer → ◌≡◌ {A = ℕ × List ℕ × List ℕ × List ℕ} (n, t, b, i) (stepped s limit state name item)

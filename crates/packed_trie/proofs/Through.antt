@@ -3,7 +3,7 @@ use Prim.Native.Nat.{ℕ, suc, ◌+◌, ◌≤◌, ◌<◌}
 use mathlib.Core.Path.{◌≡◌, refl, sym, ap, ◌∙◌, subst}
 use mathlib.Core.Bool.{true}
 use mathlib.Core.List.{List, [], ◌∷◌, ◌++◌, map, map-append}
-use mathlib.Core.Option.{Option, none, some}
+use Rattle.std.specs.Prelude.{Option, None, Some}
 use native.Mathlib.Omega.{arith}
 use borrow.Author.Tests.{eq-eqb, ne_eqb}
 use lib.ListN.{length, take, get_or}
@@ -42,11 +42,11 @@ module _ (n : ℕ) (c : List ℕ) (few : n ≤ u64) (bytes : ℕ) (short : bytes
   join_says more l g =
       let v = first_word n _ few in
       λ j. said (map symbol_told rest.exports) (v j + rest.visits) (ending_told rest.ending)
-  join_says end l g = ap (λ (k : ℕ). said [] k (some 256)) (first_word n _ few)
+  join_says end l g = ap (λ (k : ℕ). said [] k (Some 256)) (first_word n _ few)
   join_says (refused number) l g =
       let h = g number refl in
       rw (ne_eqb number 0 (λ e. omega (arith, h.0)), ne_eqb number 257 (λ e. omega (arith, h.1)))
-      (ap (λ (k : ℕ). said [] k (some number)) (first_word n _ few))
+      (ap (λ (k : ℕ). said [] k (Some number)) (first_word n _ few))
 
 -- ---- calls one after another
 
@@ -86,13 +86,13 @@ module _ (s state b item limits : List ℕ) (lent : TypedLent s (length b)) (fit
       ∙ through s limits (at_start most) b item lent typed_start long words
 
   -- where they come to an end, what the trie lists: its exports, the number of its visits, its ending
-  pub through_says : {n : ℕ} → (through_start s state b item limits).ending ≡ some n
+  pub through_says : {n : ℕ} → (through_start s state b item limits).ending ≡ Some n
       → through_start s state b item limits ≡ joined_told (joined_in (listing s (length b) most))
   through_says {n} q = through_calls ∙ ap joined_told (by (calls most s (at_start most) b limits).ending refl (sym (ap (λ (x : Said). x.ending) through_calls) ∙ q))
     where
-      by : (x : Option Ending) → (calls most s (at_start most) b limits).ending ≡ x → ending_told x ≡ some n → calls most s (at_start most) b limits ≡ joined_in (listing s (length b) most)
-      by none e f = let z : ◌≡◌ {A = ℕ} 0 1 = cc in absurd (omega arith)
-      by (some x) e f = joined_says most s b limits e
+      by : (x : Option Ending) → (calls most s (at_start most) b limits).ending ≡ x → ending_told x ≡ Some n → calls most s (at_start most) b limits ≡ joined_in (listing s (length b) most)
+      by None e f = let z : ◌≡◌ {A = ℕ} 0 1 = cc in absurd (omega arith)
+      by (Some x) e f = joined_says most s b limits e
 
   -- where they do not, the first of its exports
   pub through_starts : (rest : List SymbolWords) × (map symbol_told (exports_in (listing s (length b) most)) ≡ (through_start s state b item limits).exports ++ rest)

@@ -1,7 +1,6 @@
 -- Calls through the entry point, one after another: what they say together, by their answers and the bytes that they write, and by nothing
 -- else; and what calls of the walk say, told so.
-use Rattle.std.specs.Prelude.{ℕ, ◌+◌, cond, List, [], ◌∷◌, map, eqb, length, take}
-use Rattle.std.proofs.Math.Option.{Option, none, some}
+use Rattle.std.specs.Prelude.{ℕ, ◌+◌, cond, List, [], ◌∷◌, map, eqb, length, take, Option, Some, None}
 use Rattle.nodes.specs.Symbols.{Symbol, Ending, at_end, at_refusal}
 use Rattle.packed_trie.specs.Packed.{most, states, export_words, stepped}
 use Rattle.packing.specs.Boundary.{item_told, end_told, more_told, started}
@@ -38,11 +37,11 @@ abbrev pub join_through : (n : ℕ) (name item : List ℕ) → (rest : Said) →
 join_through n name item rest =
     cond (eqb n item_told) (said (symbol_words name item ∷ rest.exports) (visits_of item + rest.visits) rest.ending)
     (cond (eqb n more_told) (said rest.exports (visits_of item + rest.visits) rest.ending)
-    (said [] (visits_of item) (some n)))
+    (said [] (visits_of item) (Some n)))
 
 -- calls to the first answer that is neither an item nor more; each is lent the bytes as the last one left them
 unfoldable pub calls_through : (s state name item limits : List ℕ) → Said
-calls_through s state name item [] = said [] 0 none
+calls_through s state name item [] = said [] 0 None
 calls_through s state name item (k ∷ ks) =
     let p = stepped s k state name item in
     let rest = calls_through s p.1 p.2 p.3 ks in
@@ -58,9 +57,9 @@ abbrev pub symbol_told : Symbol → SymbolWords
 symbol_told x = record { name = x.name; words = export_words (length x.name) x.export }
 
 abbrev pub ending_told : Option Ending → Option ℕ
-ending_told none = none
-ending_told (some at_end) = some end_told
-ending_told (some (at_refusal number)) = some number
+ending_told None = None
+ending_told (Some at_end) = Some end_told
+ending_told (Some (at_refusal number)) = Some number
 
 abbrev pub joined_told : Joined → Said
 joined_told j = said (map symbol_told j.exports) j.visits (ending_told j.ending)

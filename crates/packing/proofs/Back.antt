@@ -9,7 +9,7 @@ use lib.ListN.{length, take, drop, get_or, length-append}
 use lib.Seq.{append_snoc, get_or-append_seam, drop-drop, drop_at, drop-nil, take_at, drop-cons}
 use Rattle.numbers.specs.Digits.{from_digits}
 use Rattle.numbers.specs.LittleEndian.{little_endian, field_at}
-use Rattle.numbers.specs.Then.{then_number}
+use Rattle.numbers.specs.Then.{then}
 use Rattle.packing.proofs.Words.{length_word, length-bytes}
 use Rattle.packing.specs.Fields.{flag, u8, u16, u64, within_from, is_record, is_set, bit}
 use Rattle.packing.specs.Words.{word_at, to_digits, word_bytes, bytes_of}
@@ -35,7 +35,7 @@ drop-words (suc i) (v ∷ vs) =
 
 -- the word of an index
 pub word_back : (vs : List ℕ) (i : ℕ) → i < length vs → get_or vs i 0 ≤ u64 → word_at (bytes_of vs) i ≡ get_or vs i 0
-unfolding word_at field_at then_number little_endian bytes_of
+unfolding word_at field_at then little_endian bytes_of
 word_back vs i h m =
     let v = get_or vs i 0 in
     let inside : 8 * i + 8 ≤ length (bytes_of vs) = omega (arith, length-bytes vs) in

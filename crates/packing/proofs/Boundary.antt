@@ -1,13 +1,13 @@
 -- A start and a step at the boundary, by what their parts answered: for `search`. Assumes nothing.
 use Prim.Native.Nat.{ℕ, ◌*◌}
-use mathlib.Core.Path.{◌≡◌, refl, sym, ap, ◌∙◌}
+use mathlib.Core.Path.{◌≡◌, sym, ap, ◌∙◌}
 use mathlib.Core.Bool.{Bool, true, false, cond}
 use mathlib.Core.List.{List}
 use borrow.Author.Tests.{eq-eqb, ne_eqb}
 use lib.ListN.{length}
 use Rattle.packing.specs.Boundary.{States, Items, unfit, start_told, started, step_told, stepped}
-use Rattle.packing.specs.Words.{bytes_of, written, reported}
-use Rattle.runs.specs.Runs.{Begin, not_begun, Answer}
+use Rattle.packing.specs.Words.{bytes_of, written}
+use Rattle.runs.specs.Runs.{Begin, Answer}
 
 -- what a test `b` of the code's says of what it tests
 pub tested : {b c x : Bool} → b ≡ x → b ≡ c → x ≡ c
@@ -32,21 +32,13 @@ module _ {W : Type 0} (S : States W) (state : List ℕ) (b : Begin W) where
   unfolding started
   started_unfit h = rw (ne_eqb (length state) S.long h)
 
-  started_as : {y : ℕ × List ℕ} → length state ≡ S.long → y ≡ start_told S state b → y ≡ started S state b
+  pub started_as : {y : ℕ × List ℕ} → length state ≡ S.long → y ≡ start_told S state b → y ≡ started S state b
   unfolding started
   started_as l e = rw (eq-eqb (length state) S.long l) e
-
-  pub not_started : {n : ℕ} → length state ≡ S.long → not_begun n ≡ b → ◌≡◌ {A = ℕ × List ℕ} (n, state) (started S state b)
-  not_started l e = started_as l (ap (start_told S state) e)
 
 pub starts_as : {W : Type 0} (S : States W) (state : List ℕ) {y : ℕ × List ℕ} {a b : Begin W} →
     y ≡ started S state a → a ≡ b → y ≡ started S state b
 starts_as S state e f = e ∙ ap (started S state) f
-
--- what an answer `r` of the start's own tells
-module _ {W R : Type 0} (S : States W) (T : R → Begin W) where
-  pub begins : (state : List ℕ) {r q : R} {b : Begin W} {y : ℕ × List ℕ} → length state ≡ S.long → r ≡ q → T r ≡ b → y ≡ start_told S state (T q) → y ≡ started S state b
-  begins state {b = b} l e f g = started_as S state b l (g ∙ ap (start_told S state) (sym (ap T e) ∙ f))
 
 -- ---- a step
 
@@ -75,12 +67,3 @@ module _ {W X : Type 0} (S : States W) (I : Items X) (call : W → Answer W X) (
   pub carried : S.holds (S.bytes w) ≡ true → S.value (S.bytes w) ≡ w → (item : List ℕ) → length item ≡ I.long →
       stepped S I (S.bytes w) item call ≡ step_told S I (call w)
   carried h e item l = by_state S I (S.bytes w) item call l h ∙ ap (λ (v : W). step_told S I (call v)) e
-
--- an answer is reported
-pub reports : {y : ℕ × List ℕ × List ℕ} {m n : ℕ} (kept found state item vs ws : List ℕ) → y ≡ reported m kept found state item → m ≡ n → kept ≡ vs → found ≡ ws → length state ≡ 8 * length vs → length item ≡ 8 * length ws → y ≡ (n, bytes_of vs, bytes_of ws)
-reports kept found state item vs ws e q f g l k = e ∙ three q (over state kept vs refl f l) (over item found ws refl g k)
-
--- what an answer `r` of the walk's own tells
-module _ {W X R : Type 0} (S : States W) (I : Items X) (T : R → Answer W X) where
-  pub tells : {r q : R} {n : ℕ} {a b : List ℕ} → r ≡ q → ◌≡◌ {A = ℕ × List ℕ × List ℕ} (n, a, b) (step_told S I (T q)) → ◌≡◌ {A = ℕ × List ℕ × List ℕ} (n, a, b) (step_told S I (T r))
-  tells e f = f ∙ ap (λ (x : R). step_told S I (T x)) (sym e)

@@ -6,3 +6,4 @@ pub mod Back
 pub mod Reading
 pub mod Whole
 pub mod Calls
+pub mod Crossing

@@ -19,10 +19,6 @@ pub reads_none : (s : List ℕ) (first count : ℕ) (words : List ℕ) → lengt
 unfolding words_from
 reads_none s first count words l = record { long = l; upto = omega arith; read = refl }
 
--- an index, from 0 on
-pub from_none : (i : ℕ) → i ≡ 0 + i
-from_none i = omega arith
-
 module _ {s : List ℕ} {first count : ℕ} {words : List ℕ} {i : ℕ} (r : Reading s first count words i) where
   pub reads_on : {j v : ℕ} → j ≡ first + i → v ≡ word_at s j → i < count → Reading s first count (set words i v) (i + 1)
   unfolding words_from

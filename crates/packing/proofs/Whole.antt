@@ -15,8 +15,8 @@ pub use Rattle.numbers.proofs.little_endian.Fields.{Bytes}
 use Rattle.numbers.proofs.little_endian.Fields.{field_below}
 use Rattle.numbers.specs.Digits.{from_digits}
 use Rattle.numbers.specs.LittleEndian.{little_endian, field_at}
-use Rattle.numbers.specs.Then.{then_number}
-use Rattle.numbers.specs.declared.Number.TheVariants.{Value, Fault}
+use Rattle.numbers.specs.Then.{then}
+use Rattle.std.specs.Prelude.{Some, None}
 use Rattle.packing.proofs.Signs.{positive, negative}
 use Rattle.packing.specs.Fields.{u64, is_set, bit, signed_of, unsigned_of}
 use Rattle.packing.specs.Words.{word_at, words_from, to_digits, word_bytes, bytes_of}
@@ -57,16 +57,16 @@ digits_whole (suc n) (d ∷ s) h l =
     λ j. low j ∷ (ap (to_digits 256 n) high ∙ digits_whole n s (λ i. h (suc i)) (omega arith)) j
 
 pub word_whole : (s : List ℕ) → Bytes s → (i : ℕ) → 8 * i + 8 ≤ length s → word_bytes (word_at s i) ≡ take 8 (drop (8 * i) s)
-unfolding word_at field_at then_number little_endian
+unfolding word_at field_at then little_endian
 word_whole s h i l =
     rw (le-leb (8 * i + 8) (length s) l)
     (digits_whole 8 (drop (8 * i) s) (bytes_drop (8 * i) s h) (omega (arith, length-drop (8 * i) s)))
 
 pub word_below : (s : List ℕ) → Bytes s → (i : ℕ) → word_at s i ≤ u64
-unfolding word_at field_at then_number
+unfolding word_at field_at then
 word_below s h i = by (leb (8 * i + 8) (length s))
   where
-    by : (t : Bool) → then_number (cond t (Value (little_endian 8 s (8 * i)) (8 * i + 8)) Fault) 0 (λ v next. v) ≤ u64
+    by : (t : Bool) → then (cond t (Some (little_endian 8 s (8 * i), 8 * i + 8)) None) 0 (λ v next. v) ≤ u64
     by true = omega (arith, field_below s 8 (8 * i) h)
     by false = omega arith
 

@@ -1,6 +1,8 @@
 -- Fields of a record: each is a word, and holds a value of its type.
-use Rattle.std.specs.Prelude.{ℕ, suc, ◌+◌, ◌*◌, ◌-◌, ◌^◌, Bool, true, cond, ◌&&◌, List, [], ◌∷◌, eqb, leb, ltb, ℤ, pos, negsuc, ◌-ℤ◌, length}
+use Rattle.std.specs.Prelude.{ℕ, suc, ◌+◌, ◌*◌, ◌-◌, ◌^◌, Bool, true, cond, ◌&&◌, List, [], ◌∷◌, eqb, leb, ltb, ℤ, pos, negsuc, ◌-ℤ◌, Result, Ok, Err, length}
 use Rattle.packing.specs.Words.{word_at}
+use Rattle.refusal.specs.declared.Refusal.{Refusal}
+use Rattle.refusal.specs.declared.Refusal.TheVariants.{PointerSize}
 
 -- ---- the largest value of a type
 
@@ -41,3 +43,8 @@ unsigned_of (negsuc n) = 2 ^ 64 - suc n  -- -1 - n
 
 abbrev pub signed_of : ℕ → ℤ
 signed_of v = cond (ltb v (2 ^ 63)) (pos v) (pos v -ℤ pos (2 ^ 64))
+
+-- ---- pointer sizes: each is a byte
+
+abbrev pub pointer_size : ℕ → Result ℕ Refusal
+pointer_size v = cond (leb v u8) (Ok v) (Err PointerSize)

@@ -1,11 +1,11 @@
 -- Words in bytes: each is eight bytes, the lowest first.
 use Rattle.std.specs.Prelude.{ℕ, zero, suc, ◌+◌, ◌*◌, ◌/◌, ◌%◌, cond, List, [], ◌∷◌, ◌++◌, eqb, length}
 use Rattle.numbers.specs.LittleEndian.{field_at}
-use Rattle.numbers.specs.Then.{then_number}
+use Rattle.numbers.specs.Then.{then}
 
 -- the word of an index; 0 where it does not lie in the bytes
 unfoldable pub word_at : List ℕ → ℕ → ℕ
-word_at s i = then_number (field_at 8 s (8 * i)) 0 (λ v next. v)
+word_at s i = then (field_at 8 s (8 * i)) 0 (λ v next. v)
 
 -- so many words, from an index on
 unfoldable pub words_from : List ℕ → (i count : ℕ) → List ℕ

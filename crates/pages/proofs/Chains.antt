@@ -1,14 +1,13 @@
 -- A chain by its first pointer. Assumes nothing.
 use Rattle.std.proofs.Common.{◌≡◌, ℕ, zero, suc, ◌+◌, ◌-◌, ◌^◌, ◌<◌, ◌≤◌, min, Bool, true, false, cond, eqb, List, length, sym, refl, ap, ◌∙◌, arith}
+use Rattle.std.specs.Prelude.{Option, Some, None}
 use native.Mathlib.Decide.{dec_le}
 use native.Mathlib.Nat.{min-eq_left, min-eq_right}
 use borrow.Author.Tests.{eqb-false}
 use Rattle.chains.specs.declared.Segment.{Segment}
 use Rattle.numbers.proofs.Rows.{field_out}
 use Rattle.numbers.specs.LittleEndian.{field_at}
-use Rattle.numbers.specs.Then.{then_number}
-use Rattle.numbers.specs.declared.Number.{Number}
-use Rattle.numbers.specs.declared.Number.TheVariants.{Value, Fault}
+use Rattle.numbers.specs.Then.{then}
 use Rattle.pages.specs.ChainedPointers.{is_narrow, width_of, fixup_of, next_of, patch}
 use Rattle.pages.specs.Listing.{Page, Paged, paged, outside, following, chain_in, chain}
 use Rattle.runs.specs.Runs.{Run, stops, gives}
@@ -23,22 +22,22 @@ has_width format = by (is_narrow format)
 
 module _ (s d : List ℕ) (g : Segment) (base : ℕ) (p : Page) where
   -- what follows the read of a pointer, with what lists the rest of its chain
-  abbrev Behind : (rest : ℕ → Run Paged) (place : ℕ) → Number → Run Paged
+  abbrev Behind : (rest : ℕ → Run Paged) (place : ℕ) → Option (ℕ × ℕ) → Run Paged
   Behind rest place x =
-      then_number x outside
+      then x outside
       (λ n after.
       gives (paged p (patch place (fixup_of g.pointer_format base n))) (following rest place (next_of g.pointer_format n)))
 
-  no_pointer : (place : ℕ) → length d ≤ place → field_at (width_of g.pointer_format) d place ≡ Fault
+  no_pointer : (place : ℕ) → length d ≤ place → field_at (width_of g.pointer_format) d place ≡ None
   no_pointer place h = field_out (width_of g.pointer_format) d place (omega (arith, has_width g.pointer_format))
 
   -- what lists alike, lists the rest alike
   by_read : (rest more : ℕ → Run Paged) (place : ℕ) →
-      ((next : ℕ) → (next ≡ 0 → ⊥) → rest (place + next) ≡ more (place + next)) → (x : Number) →
+      ((next : ℕ) → (next ≡ 0 → ⊥) → rest (place + next) ≡ more (place + next)) → (x : Option (ℕ × ℕ)) →
       Behind rest place x ≡ Behind more place x
-  unfolding then_number
-  by_read rest more place h Fault = refl
-  by_read rest more place h (Value n after) =
+  unfolding then
+  by_read rest more place h None = refl
+  by_read rest more place h (Some (n, after)) =
       ap (gives (paged p (patch place (fixup_of g.pointer_format base n))))
       (by_next (next_of g.pointer_format n) (eqb (next_of g.pointer_format n) 0) refl)
     where
@@ -48,7 +47,7 @@ module _ (s d : List ℕ) (g : Segment) (base : ℕ) (p : Page) where
 
   -- more pointers than bytes there are not
   enough : (k place : ℕ) → length d ≤ place + k → chain_in s d g base p k place ≡ chain_in s d g base p (suc k) place
-  unfolding chain_in then_number
+  unfolding chain_in then
   enough zero place h = sym (ap (Behind (chain_in s d g base p 0) place) (no_pointer place (omega arith)))
   enough (suc k) place h =
       by_read (chain_in s d g base p k) (chain_in s d g base p (suc k)) place
@@ -61,7 +60,7 @@ module _ (s d : List ℕ) (g : Segment) (base : ℕ) (p : Page) where
   chain_by place = enough (length d) place (omega arith)
 
   pub chain_out : (place : ℕ) → length d ≤ place → chain s d g base p place ≡ outside
-  unfolding then_number
+  unfolding then
   chain_out place h = chain_by place ∙ ap (Behind (chain s d g base p) place) (no_pointer place h)
 
   -- no chain goes on at an offset that a u64 has not

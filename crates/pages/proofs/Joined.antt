@@ -6,7 +6,8 @@ use Rattle.numbers.proofs.Picks.{by_pick, by_test, both_picks}
 use Rattle.pages.proofs.Ahead.{ahead, says}
 use Rattle.pages.proofs.Answers.{by_call}
 use Rattle.pages.proofs.Moves.{origin_within}
-use Rattle.pages.specs.Call.{starts_out, at_start, begin, onward, farthest, out_of_range, call}
+use Rattle.pages.specs.Call.{starts_out, at_start, begin, onward, out_of_range, call}
+use Rattle.pages.specs.Farthest.{farthest}
 use Rattle.pages.specs.ChainedPointers.{is_format, next_of}
 use Rattle.pages.specs.Listing.{Paged, pages, listing, heard}
 use Rattle.pages.specs.declared.PageWalk.{PageWalk}
@@ -46,7 +47,7 @@ module _ (s d : List ℕ) (short : length d < 2 ^ 64) where
             };
         to_list = λ v index l i. i;
         next_chain = λ v l i. i;
-        to_pointer_lem = λ v more place l i. i;
+        to_pointer_lem = λ v due place l i. i;
       })
       (λ e. tt)
       (λ v i. tt)

@@ -21,9 +21,9 @@ module _ (s d : List ℕ) (w : PageWalk) where
     marked_ended_lem e =
         subst (IfRefused (λ v. v ≡ marked w)) e
         (by_call s d w {I = λ v. Unit {0}} (IfRefused (λ v. v ≡ marked w))
-        (record { on_page_lem = λ v l i. tt; to_list = λ v index l i. tt; next_chain = λ v l i. tt; to_pointer_lem = λ v more place l i. tt })
+        (record { on_page_lem = λ v l i. tt; to_list = λ v index l i. tt; next_chain = λ v l i. tt; to_pointer_lem = λ v due place l i. tt })
         (λ e. refl) (λ v i. tt) (λ v n i. tt) (λ o. absurd (true≢false (sym o ∙ i))) (λ i. tt))
 
     -- and it says End ever after, whatever bytes are lent, where it is in range of them
     pub kept : {number : ℕ} {v : PageWalk} → call s d w ≡ refused number v → (t c : List ℕ) → out_of_range w (length t) ≡ false → call t c v ≡ end v
-    kept e t c j = rw (marked_ended_lem e) (sym (call_ended t c (marked w) refl j refl))
+    kept e t c j = rw (marked_ended_lem e) (sym (call_ended t c (marked w) j refl))

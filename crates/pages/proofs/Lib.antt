@@ -1,5 +1,4 @@
 pub mod Accord
-pub mod Formats
 pub mod Moves
 pub mod Calls
 pub mod Answers
@@ -8,5 +7,5 @@ pub mod Paged
 pub mod Ahead
 pub mod Joined
 pub mod Kept
-pub mod Unique
 pub mod Typed
+pub mod Marks

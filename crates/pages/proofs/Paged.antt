@@ -3,7 +3,7 @@
 use Rattle.std.proofs.Common.{◌≡◌, ℕ, zero, suc, ◌+◌, ◌-◌, ◌*◌, ◌<◌, ◌≤◌, eqb, List, length, refl, arith}
 use Rattle.chains.specs.declared.Segment.{Segment}
 use Rattle.numbers.proofs.Picks.{by_pick}
-use Rattle.numbers.proofs.Then.{by_number}
+use Rattle.numbers.proofs.Then.{by_read}
 use Rattle.numbers.specs.LittleEndian.{field_at}
 use Rattle.pages.specs.ChainedPointers.{start_at, is_none, is_marked, unmarked, is_format, width_of, next_of}
 use Rattle.pages.specs.Listing.{Page, page_at, Paged, paged, chain_in, chain, chains, page, pages, listing}
@@ -29,7 +29,7 @@ module _ (s d : List ℕ) (g : Segment) (base : ℕ) (P : Paged → Type 0) wher
     unfolding chain_in
     each_in zero place = tt
     each_in (suc most) place =
-        by_number (field_at (width_of g.pointer_format) d place) _ _ (Each P) tt
+        by_read (field_at (width_of g.pointer_format) d place) _ _ (Each P) tt
         (λ n after e.
         (h _, by_pick (Each P) (eqb (next_of g.pointer_format n) 0) _ _ tt (each_in most (place + next_of g.pointer_format n))))
 
@@ -41,7 +41,7 @@ module _ (s d : List ℕ) (g : Segment) (base : ℕ) (P : Paged → Type 0) wher
     unfolding chains
     each_chains zero index = tt
     each_chains (suc n) index =
-        by_number (start_at s g index) _ _ (Each P) tt
+        by_read (start_at s g index) _ _ (Each P) tt
         (λ start after e.
         each_then P _ _ (each_chain (p.origin + unmarked start))
         (by_pick (Each P) (is_marked start) _ _ tt (each_chains n (index + 1))))
@@ -58,7 +58,7 @@ module _ (s d : List ℕ) (g : Segment) (base : ℕ) (P : Paged → Type 0) wher
     unfolding pages
     each_pages zero index l = tt
     each_pages (suc n) index l =
-        by_number (start_at s g index) _ _ (Each P) tt
+        by_read (start_at s g index) _ _ (Each P) tt
         (λ start after e.
         each_then P _ _ (each_page (page_at g index) (h index (omega (arith, l))) start)
         (each_pages n (index + 1) (omega (arith, l))))

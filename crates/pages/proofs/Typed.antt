@@ -1,6 +1,6 @@
 -- States and items whose fields are such as their types have: a start gives such a state, and every call on one hands such a one back, and
 -- such an item. Refusals have a number of the table. Assumes nothing.
-use Rattle.std.proofs.Common.{◌≡◌, ℕ, ◌+◌, ◌-◌, ◌*◌, ◌^◌, ◌<◌, ◌≤◌, Bool, eqb, List, length, subst, arith}
+use Rattle.std.proofs.Common.{◌≡◌, ℕ, ◌+◌, ◌-◌, ◌*◌, ◌^◌, ◌<◌, ◌≤◌, eqb, List, length, subst, arith}
 use native.Mathlib.Nat.{min-le_right}
 use lib.Bits.{or_lt}
 use Rattle.chains.proofs.Typed.{TypedSegment}
@@ -9,8 +9,10 @@ use Rattle.chains.specs.declared.Segment.{Segment}
 use Rattle.numbers.proofs.Picks.{by_pick}
 use Rattle.pages.proofs.Answers.{Keeps, by_call}
 use Rattle.pages.proofs.Moves.{in_range_lem, origin_within}
-use Rattle.pages.specs.Call.{starts_out, begin, marked, moved, on_page, to_chain, to_pointer, onward, refusing, farthest, call}
+use Rattle.pages.specs.Call.{starts_out, begin, marked, moved, on_page, to_chain, to_pointer, onward, refusing, call}
+use Rattle.pages.specs.Farthest.{farthest}
 use Rattle.pages.specs.ChainedPointers.{is_format, is_narrow, base_of, minus, wide_fixup, narrow_fixup, fixup_of, next_of, patch}
+use Rattle.pages.specs.declared.Due.{Due}
 use Rattle.pages.specs.declared.PageWalk.{PageWalk}
 use Rattle.pages.specs.declared.Patch.{Patch}
 use Rattle.pages.specs.declared.pointer.Fixup.{Fixup}
@@ -47,8 +49,8 @@ record Near (w : PageWalk) : Type 0 where
   near : w.origin ≤ farthest
 
 -- elsewhere
-typed_moved : (w : PageWalk) → Typed w → {linked more : Bool} {page chain origin offset : ℕ} → page < 2 ^ 64 → chain < 2 ^ 64 → origin < 2 ^ 64 → offset < 2 ^ 64 →
-    Typed (moved w linked more page chain origin offset)
+typed_moved : (w : PageWalk) → Typed w → {due : Due} {page chain origin offset : ℕ} → page < 2 ^ 64 → chain < 2 ^ 64 → origin < 2 ^ 64 → offset < 2 ^ 64 →
+    Typed (moved w due page chain origin offset)
 typed_moved w t p c o f = record { segment = t.segment; base = t.base; page = p; chain = c; origin = o; offset = f }
 
 near_page : (w : PageWalk) → w.page < w.segment.page_count → Near w → Near (on_page w)
@@ -62,8 +64,8 @@ near_chain w index l i =
     let t = i.typed in
     record { typed = typed_moved w t t.page l t.origin t.offset; near = i.near }
 
-near_pointer : (w : PageWalk) (more : Bool) (place : ℕ) → place < 0x8000 → Near w → Near (to_pointer more (w.origin + place) w)
-near_pointer w more place l i =
+near_pointer : (w : PageWalk) (due : Due) (place : ℕ) → place < 0x8000 → Near w → Near (to_pointer due (w.origin + place) w)
+near_pointer w due place l i =
     let t = i.typed in
     record { typed = typed_moved w t t.page t.chain t.origin (omega (arith, i.near)); near = i.near }
 

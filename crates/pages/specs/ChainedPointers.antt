@@ -1,10 +1,8 @@
 -- Page starts and chained pointers, as mach-o/fixup-chains.h has them.
-use Rattle.std.specs.Prelude.{ℕ, ◌+◌, ◌-◌, ◌*◌, ◌%◌, ◌^◌, Bool, cond, ◌||◌, List, ◌==◌, bit_or, nat_le, nat_lt}
+use Rattle.std.specs.Prelude.{ℕ, ◌+◌, ◌-◌, ◌*◌, ◌%◌, ◌^◌, Bool, cond, ◌||◌, List, ◌==◌, bit_or, nat_le, nat_lt, Option, None}
 use Rattle.chains.specs.FixupChains.{bits}
 use Rattle.chains.specs.declared.Segment.{Segment}
 use Rattle.numbers.specs.LittleEndian.{field_at}
-use Rattle.numbers.specs.declared.Number.{Number}
-use Rattle.numbers.specs.declared.Number.TheVariants as number
 use Rattle.pages.specs.declared.Patch.{Patch}
 use Rattle.pages.specs.declared.pointer.Fixup.{Fixup}
 use Rattle.pages.specs.declared.pointer.Fixup.TheVariants.{Rebase, Bind}
@@ -12,8 +10,8 @@ use Rattle.pages.specs.declared.pointer.Fixup.TheVariants.{Rebase, Bind}
 -- ---- starts, of two bytes each: one for each page, then the lists of chains
 
 -- a start of a segment, and the place behind it
-unfoldable pub start_at : List ℕ → Segment → (index : ℕ) → Number
-start_at s g index = cond (nat_lt index g.count) (field_at 2 s (g.place + 2 * index)) number.Fault
+unfoldable pub start_at : List ℕ → Segment → (index : ℕ) → Option (ℕ × ℕ)
+start_at s g index = cond (nat_lt index g.count) (field_at 2 s (g.place + 2 * index)) None
 
 -- DYLD_CHAINED_PTR_START_NONE: the page has no chain
 abbrev pub is_none : (start : ℕ) → Bool

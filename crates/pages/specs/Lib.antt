@@ -1,4 +1,5 @@
 pub mod ChainedPointers
 pub mod Listing
+pub mod Farthest
+pub mod Due
 pub mod Call
-pub mod Told

@@ -4,7 +4,7 @@
 use Rattle.std.specs.Prelude.{ℕ, zero, suc, ◌+◌, ◌-◌, ◌*◌, cond, List, length, ◌==◌}
 use Rattle.chains.specs.declared.Segment.{Segment}
 use Rattle.numbers.specs.LittleEndian.{field_at}
-use Rattle.numbers.specs.Then.{then_number}
+use Rattle.numbers.specs.Then as read
 use Rattle.pages.specs.ChainedPointers.{start_at, is_none, is_marked, unmarked, is_format, width_of}
 use Rattle.pages.specs.ChainedPointers.{fixup_of, next_of, patch}
 use Rattle.pages.specs.declared.Patch.{Patch}
@@ -43,7 +43,7 @@ module _ (s d : List ℕ) (g : Segment) (base : ℕ) where
   unfoldable pub chain_in : (p : Page) (most place : ℕ) → Run Paged
   chain_in p zero place = outside
   chain_in p (suc most) place =
-      then_number (field_at (width_of g.pointer_format) d place) outside
+      read.then (field_at (width_of g.pointer_format) d place) outside
       (λ n after.
       gives (paged p (patch place (fixup_of g.pointer_format base n)))
       (following (chain_in p most) place (next_of g.pointer_format n)))
@@ -56,7 +56,7 @@ module _ (s d : List ℕ) (g : Segment) (base : ℕ) where
   unfoldable pub chains : (p : Page) (n index : ℕ) → Run Paged
   chains p zero index = beyond
   chains p (suc n) index =
-      then_number (start_at s g index) beyond
+      read.then (start_at s g index) beyond
       (λ start after. chain p (p.origin + unmarked start) then cond (is_marked start) stops (chains p n (index + 1)))
 
   -- a page by its start
@@ -70,7 +70,7 @@ module _ (s d : List ℕ) (g : Segment) (base : ℕ) where
   unfoldable pub pages : (n index : ℕ) → Run Paged
   pages zero index = stops
   pages (suc n) index =
-      then_number (start_at s g index) beyond (λ start after. page (page_at g index) start then pages n (index + 1))
+      read.then (start_at s g index) beyond (λ start after. page (page_at g index) start then pages n (index + 1))
 
   unfoldable pub listing : Run Paged
   listing = cond (is_format g.pointer_format) (pages g.page_count 0) (fails (number_of UnsupportedFormat))

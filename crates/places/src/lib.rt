@@ -9,8 +9,9 @@ ghost use Rattle.places.specs.Places.{judged_of};
 pub const LARGEST_SIZE: u64 = 0x4000_0000_0000_0000;
 
 // All places lie inside, and this is the offset behind them; or this is the index of the first that
-// does not; or the segment is larger than any that places are judged in.
-#[derive(Clone, Copy)]
+// does not; or the segment is larger than any that places are judged in. (Three cases: a `Result` would
+// need an enum of the last two, and be no plainer.)
+#[derive(Clone, Copy, Debug, PartialEq, Eq)]
 pub enum Judged {
     Inside(u64),
     Outside(u64),
@@ -40,12 +41,12 @@ pub fn judge(offset: u64, advance: u64, left: u64, width: u64, size: u64) -> Jud
         if steps_up < left {
             return Judged::Outside(steps_up + 1);
         }
-        return Judged::Inside(std::num::wrapping_add_u64(offset + left * advance, advance));
+        return Judged::Inside((offset + left * advance).wrapping_add(advance));
     }
     let back = u64::MAX - advance + 1;
     let steps_down = offset / back;
     if steps_down < left {
         return Judged::Outside(steps_down + 1);
     }
-    Judged::Inside(std::num::wrapping_add_u64(offset - left * back, advance))
+    Judged::Inside((offset - left * back).wrapping_add(advance))
 }

@@ -1,4 +1,6 @@
 -- The verdict on a stream is its first fault, or its end, and so is what a preflight says: exactly if. Assumes nothing.
+use Rattle.refusal.specs.declared.Refusal.{Refusal}
+use Rattle.std.specs.Prelude.{Option, None, Some}
 use Prim.Native.Nat.{ℕ, zero, suc, ◌+◌, ◌-◌, ◌<◌}
 use mathlib.Core.Path.{◌≡◌, refl, ap, sym, ◌∙◌, subst}
 use mathlib.Core.Bool.{Bool, true, false}
@@ -7,8 +9,6 @@ use mathlib.Core.Logic.{⊎_elim}
 use native.Mathlib.Nat.{eq-or-lt_of_le}
 use native.Mathlib.Omega.{arith}
 use Rattle.cursor.specs.Cursor.{is_pointer_size}
-use Rattle.cursor.specs.declared.Lack.{Lack}
-use Rattle.cursor.specs.declared.Lack.TheVariants.{Nothing, Lacks}
 use Rattle.cursor.specs.declared.Turn.{Turn}
 use Rattle.cursor.specs.declared.Turn.TheVariants.{On, Anew, Due, End, Refused}
 use Rattle.listing.proofs.Streams.{behind, is_out, is_bad}
@@ -54,34 +54,34 @@ first {A} b (suc n) none some = first b n (λ h. by_last h (b n) refl) (λ i l. 
     by_last h true e = none (λ i l. ⊎_elim (λ (q : i ≡ n). ap b q ∙ e) (h i) (eq-or-lt_of_le (omega arith)))
     by_last h false e = some n (omega arith) h e
 
-module _ (M : Machine) (size : ℕ) (sizes : List ℕ) where
+module _ {Op Reg Item : Type 0} (M : Machine Op Reg Item) (size : ℕ) (sizes : List ℕ) where
   -- ---- an operation
 
-  module _ (g : M.Reg) (o : ℕ) where
+  module _ (g : Reg) (o : ℕ) where
     -- it has no fault, or one, or says the end
     by_turn : {A : Type 0} (t : Turn) → ((to : ℕ) → Clear M size sizes g o t to → A) → ((number index : ℕ) → Faulty M size sizes g o t number index → A) → (t ≡ End → A) → A
     by_turn (On to) clear faulty end = clear to goes_on
     by_turn Anew clear faulty end = clear 0 anew
     by_turn {A} (Due left a) clear faulty end = by_lack (M.lack g) refl
       where
-        by_lack : (l : Lack) → M.lack g ≡ l → A
-        by_lack Nothing e =
+        by_lack : (l : Option Refusal) → M.lack g ≡ l → A
+        by_lack None e =
             first (inside_at M size sizes g o a) (suc left)
             (λ h. clear _ (all_inside e (λ i l. h i (omega arith))))
             (λ i l h f. faulty _ i (outside e (omega arith) h f))
-        by_lack (Lacks r) e = faulty _ 0 (lacking e)
+        by_lack (Some r) e = faulty _ 0 (lacking e)
     by_turn End clear faulty end = end refl
     by_turn (Refused e) clear faulty end = faulty _ 0 refused
 
     -- places that are inside are passed over
-    over_places : (p a : ℕ) (rest : Listing M.Item) (c n m : ℕ) → c + n ≡ m → ((j : ℕ) → j < c → inside_at M size sizes g o a j ≡ true) →
+    over_places : (p a : ℕ) (rest : Listing Item) (c n m : ℕ) → c + n ≡ m → ((j : ℕ) → j < c → inside_at M size sizes g o a j ≡ true) →
         verdict M size sizes (places M p g o a 0 m rest) ≡ verdict M size sizes (places M p g o a c n rest)
     unfolding verdict places
     over_places p a rest zero n m e h = let q : m ≡ n = omega arith in rw q
     over_places p a rest (suc c) n m e h =
         over_places p a rest c (suc n) m (omega arith) (λ j l. h j (omega arith)) ∙ rw (h c (omega arith), verdict)
 
-    module _ (p k : ℕ) (rest : M.Reg → ℕ → Listing M.Item) where
+    module _ (p k : ℕ) (rest : Reg → ℕ → Listing Item) where
       clear_only : {t : Turn} {to : ℕ} → Clear M size sizes g o t to → verdict M size sizes (listed M p k g o rest t) ≡ verdict M size sizes (rest g to)
       unfolding listed repeated places
       clear_only goes_on = refl
@@ -98,12 +98,12 @@ module _ (M : Machine) (size : ℕ) (sizes : List ℕ) where
 
   -- ---- a stream
 
-  module _ (start : M.Reg) (s : List ℕ) where
+  module _ (start : Reg) (s : List ℕ) where
     abbrev pub whole : Verdict
     whole = verdict M size sizes (listing M size start s)
 
     -- what stands where it comes to decides
-    comes_only : {at k : ℕ} {g : M.Reg} {o : ℕ} → Comes M size sizes s start at k g o → whole ≡ flight M size sizes s at k g o
+    comes_only : {at k : ℕ} {g : Reg} {o : ℕ} → Comes M size sizes s start at k g o → whole ≡ flight M size sizes s at k g o
     unfolding listing listing_of before
     comes_only begins = refl
     comes_only (over {at} {k} {next} {offset} {to} {g} {op} c e t) =
@@ -111,7 +111,7 @@ module _ (M : Machine) (size : ℕ) (sizes : List ℕ) where
         ∙ flight_by M size sizes s at k g offset e
         ∙ clear_only (registers_by M size op g) offset at k (listing_of M size (stream_at M s next) (suc k)) t
 
-    module _ (k : ℕ) {at : ℕ} {g : M.Reg} {o : ℕ} where
+    module _ (k : ℕ) {at : ℕ} {g : Reg} {o : ℕ} where
       fault_here : {number index : ℕ} → FaultAt M size sizes s at g o number index → flight M size sizes s at k g o ≡ fault number at index
       unfolding listing_of before
       fault_here (unread e) = flight_by M size sizes s at k g o e ∙ unfold verdict in refl
@@ -142,7 +142,7 @@ module _ (M : Machine) (size : ℕ) (sizes : List ℕ) where
     ends_so : {operations : ℕ} → Ends M size sizes s start operations → Said whole
     ends_so e = subst Said (sym (pass_only e)) e
 
-    said : (xs : Stream M.Op) (at k : ℕ) (g : M.Reg) (o : ℕ) → stream_at M s at ≡ xs → Comes M size sizes s start at k g o → Said whole
+    said : (xs : Stream Op) (at k : ℕ) (g : Reg) (o : ℕ) → stream_at M s at ≡ xs → Comes M size sizes s start at k g o → Said whole
     said out at k g o same c = ends_so (record { at = at; k = k; registers = g; offset = o; comes = c; ends = no_more (is_out M s at same) })
     said (bad e position) at k g o same c =
         faults_so (record { k = k; registers = g; offset = o; comes = c; faults = unread (is_bad M s at same).parsed })

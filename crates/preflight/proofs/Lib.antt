@@ -1,13 +1,10 @@
 pub mod Accord
 pub mod Small
 pub mod Verdicts
-pub mod Widths
-pub mod Flights
 pub mod Legs
 pub mod Loops
 pub mod Faults
 pub mod Local
-pub mod Machines
-pub mod Unique
 pub mod Agrees
+pub mod Unique
 pub mod Walks

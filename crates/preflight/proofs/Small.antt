@@ -1,52 +1,22 @@
--- The sizes of the segments: what the loop over them finds, and that each that is fit is small. Assumes nothing.
-use Prim.Native.Nat.{ℕ, zero, suc, ◌+◌, ◌≤◌, ◌<◌}
-use mathlib.Core.Path.{◌≡◌, refl, ap, sym, ◌∙◌}
-use mathlib.Core.Bool.{Bool, true, false, ◌&&◌, and-eq-true_iff}
+-- The sizes of the segments: what a search through them finds, and that each that is fit is small. Assumes nothing.
+use Prim.Native.Nat.{ℕ, zero, suc, ◌≤◌}
+use mathlib.Core.Path.{◌≡◌, refl, ◌∙◌}
+use mathlib.Core.Bool.{Bool, true, ◌&&◌, and-eq-true_iff}
 use mathlib.Core.List.{List, [], ◌∷◌}
-use native.Mathlib.Numerals.{add-one}
 use native.Mathlib.Omega.{arith}
-use borrow.Author.Tests.{le-leb, lt-leb, leb-true}
+use borrow.Author.Tests.{le-leb, leb-true}
 use lib.Dec.{leb}
-use lib.ListN.{length, get_or, drop, drop_of_length-le}
-use lib.Seq.{drop-cons}
+use lib.ListN.{length, get_or}
+use Rattle.std.proofs.lemmas.List.Recursion.{same_from_clauses}
+use Rattle.std.specs.List.{list_all}
 use Rattle.places.specs.Places.{largest_size}
 use Rattle.preflight.specs.Verdict.{all_small, fit_sizes}
 
--- ---- the loop: sizes 0 .. i - 1 are small
+-- ---- what a search through them finds
 
-pub record Seen (sizes : List ℕ) (i : ℕ) : Type 0 where
-  pub few : length sizes ≤ 16
-  pub same : all_small (drop i sizes) ≡ all_small sizes
-
-module _ (sizes : List ℕ) where
-  pub too_many : 16 < length sizes → false ≡ fit_sizes sizes
-  too_many h = sym (rw (lt-leb (length sizes) 16 h))
-
-  pub seen_none : length sizes ≤ 16 → Seen sizes 0
-  seen_none h = record { few = h; same = refl }
-
-  module _ {i : ℕ} (seen : Seen sizes i) where
-    by_small : {b : Bool} → all_small sizes ≡ b → b ≡ fit_sizes sizes
-    by_small e = sym (rw (le-leb (length sizes) 16 seen.few, e))
-
-    pub seen_all : length sizes ≤ i → true ≡ fit_sizes sizes
-    seen_all h = by_small (sym seen.same ∙ ap all_small (drop_of_length-le sizes {i = i} h))
-
-    module _ (h : i < length sizes) where
-      turn : all_small (drop i sizes) ≡ (leb (get_or sizes i 0) largest_size && all_small (drop (suc i) sizes))
-      turn = ap all_small (drop-cons sizes i 0 h)
-
-      pub seen_large : largest_size < get_or sizes i 0 → false ≡ fit_sizes sizes
-      seen_large p = by_small {b = false} (sym seen.same ∙ turn ∙ rw (lt-leb (get_or sizes i 0) largest_size p))
-
-      pub seen_more : get_or sizes i 0 ≤ largest_size → Seen sizes (i + 1)
-      seen_more p =
-          record {
-            few = seen.few;
-            same = sym (turn ∙ rw (le-leb (get_or sizes i 0) largest_size p, add-one)) ∙ seen.same;
-          }
-
-pub ruleset size_laws = (too_many, seen_none, seen_all, seen_large, seen_more)
+pub by_sizes : (sizes : List ℕ) → length sizes ≤ 16 → {b : Bool} → b ≡ list_all (λ z. leb z largest_size) sizes → b ≡ fit_sizes sizes
+by_sizes sizes h e =
+    rw (le-leb (length sizes) 16 h) (e ∙ same_from_clauses (list_all (λ z. leb z largest_size)) all_small (λ z b. leb z largest_size && b) refl (λ z zs. refl) (λ z zs. refl) sizes)
 
 -- ---- each size that is fit is small
 

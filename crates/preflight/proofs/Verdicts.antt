@@ -1,4 +1,5 @@
 -- The verdict on what an operation lists is what the operation comes to in a preflight. Assumes nothing.
+use Rattle.std.specs.Prelude.{Option, None, Some}
 use Prim.Native.Nat.{ℕ, zero, suc, ◌+◌}
 use mathlib.Core.Path.{◌≡◌, refl, ap, sym, ◌∙◌}
 use mathlib.Core.Bool.{Bool, true, false, cond, ◌&&◌}
@@ -8,8 +9,6 @@ use native.Mathlib.Omega.{arith}
 use borrow.Author.Tests.{le-leb}
 use lib.Dec.{ltb}
 use lib.ListN.{length, get_or}
-use Rattle.cursor.specs.declared.Lack.{Lack}
-use Rattle.cursor.specs.declared.Lack.TheVariants.{Nothing, Lacks}
 use Rattle.cursor.specs.declared.Turn.{Turn}
 use Rattle.cursor.specs.declared.Turn.TheVariants as turn
 use Rattle.listing.specs.Listing.{Listing, places, repeated, listed}
@@ -17,21 +16,15 @@ use Rattle.listing.specs.Machine.{Machine}
 use Rattle.places.specs.Places.{place_at, fits, judged_from, largest_size, judged_of}
 use Rattle.places.specs.declared.Judged.{Judged}
 use Rattle.places.specs.declared.Judged.TheVariants.{Outside}
+use Rattle.refusal.specs.declared.Refusal.{Refusal}
 use Rattle.refusal.specs.Numbers.{number_of}
 use Rattle.refusal.specs.declared.Refusal.TheVariants.{PlaceOutside}
 use Rattle.preflight.specs.Flown.{flown_judged, flown_places, flown_due, flown_of}
-use Rattle.preflight.specs.Leg.{spot_of}
+use Rattle.preflight.specs.Leg.{Placed, spot_of}
 use Rattle.preflight.specs.Verdict.{Verdict, pass, fault, width_of, inside, verdict, fit_sizes}
-use Rattle.preflight.specs.declared.flight.Flown.{Flown}
-use Rattle.preflight.specs.declared.flight.Flown.TheVariants.{On, Pass, Fault}
+use Rattle.preflight.specs.declared.spot.Flown.{Flown}
+use Rattle.preflight.specs.declared.spot.Flown.TheVariants.{On, Pass, Fault}
 use Rattle.preflight.proofs.Small.{fit_small}
-
--- segment and type of an item are those of the registers, whatever its offset
-abbrev pub Placed : Machine → Type 0
-Placed M =
-    (g : M.Reg) (offset : ℕ) →
-    M.place (M.item g offset)
-    ≡ record { segment = (M.place (M.item g 0)).segment; offset = offset; kind = (M.place (M.item g 0)).kind }
 
 -- what the operation at p comes to decides, with k operations read before it; `rest` is the verdict on those behind it, from an offset on
 abbrev pub decided : (p k : ℕ) → (ℕ → Verdict) → Flown → Verdict
@@ -51,7 +44,7 @@ branch : (b c : Bool) (p k i : ℕ) (rest : ℕ → Verdict) (x : Verdict) (j : 
 branch true c p k i rest x j e h = rw e h
 branch false c p k i rest x j e h = outer c p i x e
 
-module _ (M : Machine) (P : Placed M) (size : ℕ) (sizes : List ℕ) (g : M.Reg) where
+module _ {Op Reg Item : Type 0} (M : Machine Op Reg Item) (P : Placed M) (size : ℕ) (sizes : List ℕ) (g : Reg) where
   abbrev segment : ℕ
   segment = (spot_of M size g).segment
 
@@ -64,7 +57,7 @@ module _ (M : Machine) (P : Placed M) (size : ℕ) (sizes : List ℕ) (g : M.Reg
   unfolding inside
   inside_at_lem o e = ap (inside size sizes) (P g o) ∙ rw e
 
-  module _ (p k : ℕ) (rest : ℕ → Listing M.Item) where
+  module _ (p k : ℕ) (rest : ℕ → Listing Item) where
     abbrev there : ℕ → Verdict
     there to = verdict M size sizes (rest to)
 
@@ -88,14 +81,14 @@ module _ (M : Machine) (P : Placed M) (size : ℕ) (sizes : List ℕ) (g : M.Reg
           ∙ unfold judged_of in rw (le-leb (get_or sizes segment 0) largest_size (fit_small sizes fit segment))
       by_segment a left false hasn't = unfold verdict places in outer _ p 0 _ (inside_at_lem (place_at o a 0) hasn't)
 
-      verdict_due : (a left : ℕ) (l : Lack) →
+      verdict_due : (a left : ℕ) (l : Option Refusal) →
           verdict M size sizes (repeated M p g o a (suc left) (rest (place_at o a (suc left))) l)
           ≡ decided p k there (flown_due (spot_of M size g) o a left sizes l)
       unfolding repeated flown_places
-      verdict_due a left Nothing = by_segment a left (ltb segment (length sizes)) refl
-      verdict_due a left (Lacks e) = unfold verdict in refl
+      verdict_due a left None = by_segment a left (ltb segment (length sizes)) refl
+      verdict_due a left (Some e) = unfold verdict in refl
 
-  pub verdict_turn : fit_sizes sizes ≡ true → (p k : ℕ) (rest : M.Reg → ℕ → Listing M.Item) (o : ℕ) (t : Turn) →
+  pub verdict_turn : fit_sizes sizes ≡ true → (p k : ℕ) (rest : Reg → ℕ → Listing Item) (o : ℕ) (t : Turn) →
       verdict M size sizes (listed M p k g o rest t)
       ≡ decided p k (λ to. verdict M size sizes (rest g to)) (flown_of (spot_of M size g) o sizes t)
   unfolding listed flown_of

@@ -25,9 +25,9 @@ inside size sizes p = ltb p.segment (length sizes) && fits (width_of size p.kind
 
 -- ---- a listing
 
-module _ (M : Machine) (size : ℕ) (sizes : List ℕ) where
+module _ {Op Reg Item : Type 0} (M : Machine Op Reg Item) (size : ℕ) (sizes : List ℕ) where
   -- the first entry that is outside, else how the listing ends
-  unfoldable pub verdict : Listing M.Item → Verdict
+  unfoldable pub verdict : Listing Item → Verdict
   verdict (ends operations) = pass operations
   verdict (refuses number position) = fault number position 0
   verdict (lists position index x rest) =
@@ -47,10 +47,10 @@ abbrev pub fit_sizes : List ℕ → Bool
 fit_sizes sizes = leb (length sizes) 16 && all_small sizes
 
 -- 21 comes before any byte of the stream
-unfoldable pub with_sizes : (M : Machine) → M.Reg → (size : ℕ) (sizes s : List ℕ) → Verdict
+unfoldable pub with_sizes : {Op Reg Item : Type 0} (M : Machine Op Reg Item) → Reg → (size : ℕ) (sizes s : List ℕ) → Verdict
 with_sizes M start size sizes s =
     cond (fit_sizes sizes) (verdict M size sizes (listing M size start s)) (fault (number_of UnfitSizes) 0 0)
 
 -- and 1 before 21
-unfoldable pub preflight : (M : Machine) → M.Reg → (size : ℕ) (sizes s : List ℕ) → Verdict
+unfoldable pub preflight : {Op Reg Item : Type 0} (M : Machine Op Reg Item) → Reg → (size : ℕ) (sizes s : List ℕ) → Verdict
 preflight M start size sizes s = cond (is_pointer_size size) (with_sizes M start size sizes s) (fault (number_of PointerSize) 0 0)

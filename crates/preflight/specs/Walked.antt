@@ -14,9 +14,9 @@ abbrev pub outcome : Verdict → Outcome
 outcome (pass operations) = sound
 outcome (fault number position index) = faulty number
 
-module _ (M : Machine) (size : ℕ) (sizes : List ℕ) where
+module _ {Op Reg Item : Type 0} (M : Machine Op Reg Item) (size : ℕ) (sizes : List ℕ) where
   -- calls end without refusal, and each item is inside; else what comes first: a refusal, or an item that is outside
-  unfoldable pub walked : Run M.Item → Outcome
+  unfoldable pub walked : Run Item → Outcome
   walked stops = sound
   walked (fails number) = faulty number
   walked (gives x rest) = elim (inside size sizes (M.place x)) [ true ↦ walked rest | false ↦ faulty (number_of PlaceOutside) ]

@@ -1,103 +1,121 @@
-// What a motion comes to in a preflight, whatever the kind of stream.
-ghost use Rattle.std.specs.Prelude.{◌≡◌};
-ghost use Rattle.cursor.specs.Motion.{turn_of};
-ghost use Rattle.preflight.specs.Flown.{flown_places, flown_due, flown_of};
-ghost use Rattle.preflight.specs.Leg.{places_of};
-ghost use Rattle.preflight.specs.Verdict.{width_of};
+// The preflight of a stream, one operation after the other, whatever the kind of stream.
+ghost use Rattle.std.specs.Prelude.{◌≡◌, ◌+◌, ◌^◌, ◌≤◌, ◌<◌};
+ghost use Rattle.preflight.specs.Leg.{Placed, started, leg_over, leg_at};
+ghost use Rattle.preflight.specs.Told.{fault_of, told, leg_told};
+ghost use Rattle.preflight.specs.Verdict.{with_sizes};
+ghost use Rattle.runs.specs.Told.{start_told};
 
-use cursor::{Lack, Motion, Turn};
-use places::Judged;
+use crate::Fault;
+use crate::spot::{Flown, Spot, places};
+use listing::{Registers, Walk};
 use refusal::Refusal;
 
-// REBASE_TYPE_TEXT_ABSOLUTE32 and BIND_TYPE_TEXT_ABSOLUTE32.
-const TEXT_ABSOLUTE32: u8 = 2;
-
-// REBASE_TYPE_TEXT_PCREL32 and BIND_TYPE_TEXT_PCREL32.
-const TEXT_PCREL32: u8 = 3;
-
-// What is known of places if some are due: the pointer size, what they lack, their segment and their
-// type.
+// Where a preflight stands: the place of the next operation, how many were read, the offset, and what
+// operations have set.
 #[derive(Clone, Copy)]
-pub(crate) struct Spot {
-    pub(crate) size: u8,
-    pub(crate) lack: Lack,
-    pub(crate) segment: u8,
-    pub(crate) kind: u8,
+pub(crate) struct Flight<R> {
+    pub(crate) at: usize,
+    pub(crate) operations: u64,
+    pub(crate) offset: u64,
+    pub(crate) registers: R,
 }
 
-// The stream goes on at an offset; it ends, and passes; or there is a fault, at an index of the repeat.
+// What one operation comes to: the preflight stands behind it, and it yields so many places; or the
+// preflight is over. (A `Result` would be no plainer: what is said may be a pass.)
 #[derive(Clone, Copy)]
-pub(crate) enum Flown {
-    On(u64),
-    Pass,
-    Fault(Refusal, u64),
+pub(crate) enum Leg<R> {
+    On(Flight<R>, u64),
+    Said(Result<u64, Fault>),
 }
 
-impl Spot {
-    // What a motion comes to, at an offset, for the sizes of the segments.
-    pub(crate) fn fly(self, motion: Motion, offset: u64, sizes: &[u64]) -> Flown
-        ensures { result ≡ flown_of self offset sizes.now (turn_of self.size offset motion) }
-    {
-        match motion.turned(self.size, offset) {
-            Turn::On(to) => Flown::On(to),
-            Turn::Anew => Flown::On(0),
-            Turn::Due(left, advance) => self.due(offset, advance, left, sizes),
-            Turn::End => Flown::Pass,
-            Turn::Refused(e) => Flown::Fault(e, 0),
-        }
-    }
-
-    // A place that is due at an offset, and `left` more.
-    fn due(self, offset: u64, advance: u64, left: u64, sizes: &[u64]) -> Flown
-        ensures { result ≡ flown_due self offset advance left sizes.now self.lack }
-    {
-        let lack = self.lack;
-        match lack {
-            Lack::Nothing => self.judged(offset, advance, left, sizes),
-            Lack::Lacks(e) => Flown::Fault(e, 0),
-        }
-    }
-
-    // Places that lack nothing, judged together.
-    fn judged(self, offset: u64, advance: u64, left: u64, sizes: &[u64]) -> Flown
-        ensures { result ≡ flown_places self offset advance left sizes.now }
-    {
-        let i = self.segment as usize;
-        if sizes.len() <= i {
-            return Flown::Fault(Refusal::PlaceOutside, 0);
-        }
-        match places::judge(offset, advance, left, self.width(), sizes[i]) {
-            Judged::Inside(behind) => Flown::On(behind),
-            Judged::Outside(index) => Flown::Fault(Refusal::PlaceOutside, index),
-            Judged::TooLarge => Flown::Fault(Refusal::UnfitSizes, 0),
-        }
-    }
-
-    // The width of a place: a text relocation of 32 bits has four bytes.
-    fn width(self) -> u64
-        ensures { result ≡ width_of self.size self.kind }
-    {
-        let kind = self.kind;
-        let size = self.size as u64;
-        match kind {
-            TEXT_ABSOLUTE32 => 4,
-            TEXT_PCREL32 => 4,
-            _ => size,
-        }
-    }
-}
-
-// How many places a motion yields.
-pub(crate) fn places(motion: Motion) -> u64
-    ensures { result ≡ places_of motion }
+// The preflight of a stream from the start of its walk.
+pub(crate) fn fly_from<R: Registers>(
+    start: Result<Walk<R>, Refusal>,
+    s: &[u8],
+    size: u8,
+    sizes: &[u64],
+) -> Result<u64, Fault>
+    requires { Placed R.machine }
+    ensures { told result ≡ started R.machine size sizes.now s.now (start_told start) }
 {
-    match motion {
-        Motion::Repeats(count, _) => count,
-        Motion::Stays => 0,
-        Motion::Adds(_) => 0,
-        Motion::Seeks(_) => 0,
-        Motion::Restarts => 0,
-        Motion::Ends => 0,
-        Motion::Refuses(_) => 0,
+    let walk = start.map_err(Fault::at_start)?;
+    fly(walk.registers, s, size, sizes)
+}
+
+// The preflight of a stream from the registers of a start.
+fn fly<R: Registers>(start: R, s: &[u8], size: u8, sizes: &[u64]) -> Result<u64, Fault>
+    requires { Placed R.machine }
+    ensures { told result ≡ with_sizes R.machine start size sizes.now s.now }
+{
+    if !crate::sizes::fit(sizes) {
+        return Err(Fault::at_start(Refusal::UnfitSizes));
+    }
+    let mut flight = Flight {
+        at: 0,
+        operations: 0,
+        offset: 0,
+        registers: start,
+    };
+    loop {
+        match flight.leg(s, size, sizes) {
+            Leg::On(next, _) => flight = next,
+            Leg::Said(verdict) => return verdict,
+        }
+    }
+}
+
+impl<R: Registers> Flight<R> {
+    // The operation at the place where the preflight stands.
+    #[tactic(auto, unfolding(crate::specs::Leg::leg_of))]
+    fn leg(self, s: &[u8], size: u8, sizes: &[u64]) -> Leg<R>
+        requires { self.operations ≤ self.at }
+        ensures { leg_told result ≡ leg_at R.machine size sizes.now s.now self }
+    {
+        match R::parse(s, self.at) {
+            Ok(Some((op, next))) => self.over(op, next, size, sizes),
+            Ok(None) => Leg::Said(Ok(self.operations)),
+            Err(refusal) => Leg::Said(Err(self.fault(refusal, 0))),
+        }
+    }
+
+    // An operation that is read; the place behind it is `next`. Its places are judged together.
+    #[tactic(auto, unfolding(crate::specs::Leg::leg_over))]
+    fn over(self, op: R::Operation, next: usize, size: u8, sizes: &[u64]) -> Leg<R>
+        requires { self.operations + 1 < 2 ^ 64 }
+        ensures { leg_told result ≡ leg_over R.machine size sizes.now self op next }
+    {
+        let did = self.registers.effect(size, op);
+        let registers = did.registers;
+        let operations = self.operations + 1;
+        let spot = Spot {
+            size,
+            lack: registers.lack(),
+            segment: registers.segment(),
+            kind: registers.kind(),
+        };
+        match spot.fly(did.motion, self.offset, sizes) {
+            Flown::On(offset) => Leg::On(
+                Flight {
+                    at: next,
+                    operations,
+                    offset,
+                    registers,
+                },
+                places(did.motion),
+            ),
+            Flown::Pass => Leg::Said(Ok(operations)),
+            Flown::Fault(refusal, index) => Leg::Said(Err(self.fault(refusal, index))),
+        }
+    }
+
+    // A fault of the operation at the place where the preflight stands.
+    fn fault(self, refusal: Refusal, index: u64) -> Fault
+        ensures { result ≡ fault_of refusal self.at index }
+    {
+        Fault {
+            refusal,
+            position: self.at as u64,
+            index,
+        }
     }
 }

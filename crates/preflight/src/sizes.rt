@@ -8,15 +8,5 @@ use places::LARGEST_SIZE;
 pub(crate) fn fit(sizes: &[u64]) -> bool
     ensures { result ≡ fit_sizes sizes.now }
 {
-    if 16 < sizes.len() {
-        return false;
-    }
-    let mut i = 0;
-    while i < sizes.len() {
-        if LARGEST_SIZE < sizes[i] {
-            return false;
-        }
-        i = i + 1;
-    }
-    true
+    sizes.len() <= 16 && sizes.iter().all(|&z| z <= LARGEST_SIZE)
 }

@@ -1,4 +1,2 @@
-pub mod Effects
-pub mod Unique
 pub mod Walks
 pub mod Typed

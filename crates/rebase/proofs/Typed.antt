@@ -7,7 +7,8 @@ use lib.ListN.{length}
 use Rattle.cursor.proofs.Typed.{Counted}
 use Rattle.listing.proofs.Answers.{KeepsRegisters}
 use Rattle.listing.proofs.Typed as typed
-use Rattle.listing.specs.Call.{State, call}
+use Rattle.listing.specs.Call.{call}
+use Rattle.listing.specs.declared.Walk.{Walk}
 use Rattle.operations.proofs.Typed.{RebaseTyped, rebase_typed}
 use Rattle.operations.specs.declared.rebase_operation.RebaseOperation.{RebaseOperation}
 use Rattle.operations.specs.declared.rebase_operation.RebaseOperation.TheVariants.{
@@ -61,7 +62,7 @@ pub record TypedRebase (x : Rebase) : Type 0 where
   pub kind : x.kind < 2 ^ 8
 
 -- every call on a state whose fields are such as their types have hands such a state back, and such items
-module _ (s : List ℕ) (short : length s < 2 ^ 64) (w : State Registers) (t : typed.Typed TypedRegisters w) where
+module _ (s : List ℕ) (short : length s < 2 ^ 64) (w : Walk Registers) (t : typed.Typed TypedRegisters w) where
   abbrev keeps : KeepsRegisters rebases s TypedRegisters
   keeps size at next op g e b = stays size g op (rebase_typed s at e) b
 
@@ -71,7 +72,7 @@ module _ (s : List ℕ) (short : length s < 2 ^ 64) (w : State Registers) (t : t
   pub typed_call : Hands (typed.Typed TypedRegisters) IsNumber (call rebases s w)
   typed_call = typed.typed_call rebases s short TypedRegisters keeps counts w t
 
-  pub typed_item : {x : Rebase} {v : State Registers} → call rebases s w ≡ item x v → TypedRebase x
+  pub typed_item : {x : Rebase} {v : Walk Registers} → call rebases s w ≡ item x v → TypedRebase x
   typed_item e =
       let m = typed.typed_item rebases s short TypedRegisters keeps counts w t e in
       subst TypedRebase (sym m.is) (record { offset = m.below; segment = m.typed.segment; kind = m.typed.kind })

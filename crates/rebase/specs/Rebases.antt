@@ -1,9 +1,8 @@
 -- Rebase streams: what each operation does, what a place lacks and what it gives.
-use Rattle.std.specs.Prelude.{ℕ, ◌*◌, true, false, cond}
-use Rattle.cursor.specs.declared.Lack.{Lack}
-use Rattle.cursor.specs.declared.Lack.TheVariants.{Nothing, Lacks}
+use Rattle.std.specs.Prelude.{ℕ, ◌*◌, true, false, cond, Option, None, Some}
 use Rattle.cursor.specs.declared.Motion.TheVariants.{Stays, Adds, Seeks, Repeats, Ends}
-use Rattle.listing.specs.Machine.{Effect, ◌and◌, Place, Machine}
+use Rattle.listing.specs.Machine.{◌and◌, Place, Machine}
+use Rattle.listing.specs.declared.Effect.{Effect}
 use Rattle.operations.specs.Loader.{rebase_table}
 use Rattle.operations.specs.declared.rebase_operation.RebaseOperation.{RebaseOperation}
 use Rattle.operations.specs.declared.rebase_operation.RebaseOperation.TheVariants.{
@@ -19,6 +18,7 @@ use Rattle.operations.specs.declared.rebase_operation.RebaseOperation.TheVariant
 use Rattle.rebase.specs.declared.Rebase.{Rebase}
 use Rattle.rebase.specs.declared.Registers.{Registers}
 use Rattle.refusal.specs.declared.Refusal.TheVariants.{NoSegment, NoType}
+use Rattle.refusal.specs.declared.Refusal.{Refusal}
 
 -- ---- the registers
 
@@ -27,10 +27,10 @@ abbrev pub unset : Registers
 unset = record { segment = 0; kind = 0; segmented = false; typed = false }
 
 abbrev pub with_type : ℕ → Registers → Registers
-with_type kind g = record { segment = g.segment; kind = kind; segmented = g.segmented; typed = true }
+with_type kind g = record g { kind = kind; typed = true }
 
 abbrev pub with_segment : ℕ → Registers → Registers
-with_segment index g = record { segment = index; kind = g.kind; segmented = true; typed = g.typed }
+with_segment index g = record g { segment = index; segmented = true }
 
 -- ---- what an operation does
 
@@ -46,8 +46,8 @@ effect_of size (DoRebaseTimesSkipping count skip) g = g and Repeats count skip
 
 -- ---- a place that is due
 
-abbrev pub lack_of : Registers → Lack
-lack_of g = cond g.segmented (cond g.typed Nothing (Lacks NoType)) (Lacks NoSegment)
+abbrev pub lack_of : Registers → Option Refusal
+lack_of g = cond g.segmented (cond g.typed None (Some NoType)) (Some NoSegment)
 
 abbrev pub item_of : Registers → (offset : ℕ) → Rebase
 item_of g offset = record { offset = offset; segment = g.segment; kind = g.kind }
@@ -55,12 +55,9 @@ item_of g offset = record { offset = offset; segment = g.segment; kind = g.kind 
 abbrev pub place_of : Rebase → Place
 place_of x = record { segment = x.segment; offset = x.offset; kind = x.kind }
 
-abbrev pub rebases : Machine
+abbrev pub rebases : Machine RebaseOperation Registers Rebase
 rebases =
     record {
-      Op = RebaseOperation;
-      Reg = Registers;
-      Item = Rebase;
       table = rebase_table;
       effect = effect_of;
       lack = lack_of;

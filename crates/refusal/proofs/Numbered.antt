@@ -1,6 +1,6 @@
 -- Laws of the table of numbers. Assumes nothing.
 use Prim.Native.Nat.{ℕ}
-use mathlib.Core.Path.{◌≡◌, refl, ap, sym, ◌∙◌}
+use mathlib.Core.Path.{◌≡◌, refl, ap}
 use mathlib.Core.List.{List, [], ◌∷◌}
 use mathlib.Core.Bool.{Bool, true, cond, ◌&&◌}
 use lib.Dec.{eqb, ltb}
@@ -30,10 +30,6 @@ use Rattle.refusal.specs.declared.Refusal.TheVariants.{
   PlaceOutside,
   UnfitSizes,
 }
-
--- for `number`: what a match on a refusal gives
-pub row : {r q : Refusal} (n : ℕ) → r ≡ q → number_of q ≡ n → n ≡ number_of r
-row n e f = sym (ap number_of e ∙ f)
 
 -- ---- a number has one refusal
 

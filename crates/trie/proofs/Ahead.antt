@@ -19,16 +19,13 @@ use Rattle.runs.specs.Runs.{Run, stops, fails, gives, ◌then◌}
 use Rattle.trie.specs.Call.{put}
 use Rattle.trie.specs.Frames.{top_down, still_open}
 use Rattle.trie.specs.NextChild.{child_at}
-use Rattle.nodes.specs.Child.{then_edge, is_one_of, entered_at}
-use Rattle.nodes.specs.ExportsTrie.{edge_at}
+use Rattle.nodes.specs.Child.{Child, is_one_of, entered_at}
+use Rattle.nodes.specs.ExportsTrie.{then_read, edge_at}
 use Rattle.nodes.specs.Listing.{Visit, visit, entered, if_room, child_by, children_by, children, subtree_by, subtree}
 use Rattle.trie.specs.declared.TrieWalk.{TrieWalk}
-use Rattle.nodes.specs.declared.child.Child.{Child}
-use Rattle.nodes.specs.declared.child.Child.TheVariants.{Found, Refused}
 use Rattle.nodes.specs.declared.node.Edge.{Edge}
-use Rattle.nodes.specs.declared.node.EdgeRead.{EdgeRead}
-use Rattle.nodes.specs.declared.node.EdgeRead.TheVariants as edge
 use Rattle.nodes.specs.declared.node.Node.{Node}
+use Rattle.std.specs.Prelude.{Option, Some, None, Ok, Err}
 
 -- ---- what is put into the buffer
 
@@ -149,15 +146,15 @@ module _ (most : ℕ) (s : List ℕ) (room : ℕ) where
       λ j. children s room (subtree s room (most - suc d)) (o j) (n j) (q.left d (omega arith) j) (q.places d (omega arith) j) then r j
 
   -- a child as a call reads it
-  read_by : (below : (ancestors name : List ℕ) (offset : ℕ) → Node → Run Visit) (later : ℕ → Run Visit) (ancestors name : List ℕ) (x : EdgeRead)
+  read_by : (below : (ancestors name : List ℕ) (offset : ℕ) → Node → Run Visit) (later : ℕ → Run Visit) (ancestors name : List ℕ) (x : Option Edge)
       → child_by s (if_room room) below later ancestors name x
       ≡ entered s below later ancestors name
-      (then_edge x (Refused FaultyNode) (λ e. cond (ltb room (length name + e.length)) (Refused NameTooLong) (entered_at s (is_one_of e.offset ancestors) e)))
-  unfolding child_by entered then_edge
-  read_by below later ancestors name edge.Fault = refl
-  read_by below later ancestors name (edge.Found e) = by (ltb room (length name + e.length)) (entered_at s (is_one_of e.offset ancestors) e)
+      (then_read x (Err FaultyNode) (λ e. cond (ltb room (length name + e.name.length)) (Err NameTooLong) (entered_at s (is_one_of e.offset ancestors) e)))
+  unfolding child_by entered then_read
+  read_by below later ancestors name None = refl
+  read_by below later ancestors name (Some e) = by (ltb room (length name + e.name.length)) (entered_at s (is_one_of e.offset ancestors) e)
     where
-      by : (t : Bool) (c : Child) → cond t (fails (number_of NameTooLong)) (entered s below later ancestors name c) ≡ entered s below later ancestors name (cond t (Refused NameTooLong) c)
+      by : (t : Bool) (c : Child) → cond t (fails (number_of NameTooLong)) (entered s below later ancestors name c) ≡ entered s below later ancestors name (cond t (Err NameTooLong) c)
       by true c = refl
       by false c = refl
 
@@ -182,22 +179,22 @@ module _ (most : ℕ) (s : List ℕ) (room : ℕ) where
         ∙ ap (λ (k : ℕ). entered s (subtree s room (most - suc d)) later (top_down w.offsets (suc d)) (take kept b) (child_at s room (top_down w.offsets (suc d)) k (get_or w.places d 0)) then ahead_at w b d) l
         ∙ ap (λ (y : Child). entered s (subtree s room (most - suc d)) later (top_down w.offsets (suc d)) (take kept b) y then ahead_at w b d) e
 
-    pub refused_ahead : (get_or w.left d 0 ≡ 0 → ⊥) → {x : Refusal} → child_at s room (top_down w.offsets (suc d)) kept (get_or w.places d 0) ≡ Refused x
+    pub refused_ahead : (get_or w.left d 0 ≡ 0 → ⊥) → {x : Refusal} → child_at s room (top_down w.offsets (suc d)) kept (get_or w.places d 0) ≡ Err x
         → ahead_at w b (suc d) ≡ fails (number_of x)
     refused_ahead z e = child_ahead z e ∙ (unfold entered ◌then◌ in refl)
 
     module _ (x : Edge) (n : Node) where
-      pub full_ahead : (get_or w.left d 0 ≡ 0 → ⊥) → child_at s room (top_down w.offsets (suc d)) kept (get_or w.places d 0) ≡ Found x n → most ≤ suc d
+      pub full_ahead : (get_or w.left d 0 ≡ 0 → ⊥) → child_at s room (top_down w.offsets (suc d)) kept (get_or w.places d 0) ≡ Ok (x, n) → most ≤ suc d
           → ahead_at w b (suc d) ≡ fails (number_of TooManyOpenNodes)
       unfolding entered subtree_by ◌then◌
       full_ahead z e l =
           let k : most - suc d ≡ 0 = omega arith in
           child_ahead z e
-          ∙ ap (λ (k : ℕ). (subtree s room k (top_down w.offsets (suc d)) (take kept b ++ part_of s x.place x.length) x.offset n then later x.next) then ahead_at w b d) k
+          ∙ ap (λ (k : ℕ). (subtree s room k (top_down w.offsets (suc d)) (take kept b ++ part_of s x.name.place x.name.length) x.offset n then later x.next) then ahead_at w b d) k
 
       -- the child is opened, and its edge is put into the buffer
       abbrev pub name : List ℕ
-      name = take kept b ++ part_of s x.place x.length
+      name = take kept b ++ part_of s x.name.place x.name.length
 
       abbrev pub after : TrieWalk
       after =
@@ -205,15 +202,15 @@ module _ (most : ℕ) (s : List ℕ) (room : ℕ) where
             places = set (set w.places d x.next) (suc d) n.place;
             offsets = set w.offsets (suc d) x.offset;
             left = set (set w.left d (get_or w.left d 0 - 1)) (suc d) n.children;
-            lengths = set w.lengths (suc d) (kept + x.length);
+            lengths = set w.lengths (suc d) (kept + x.name.length);
             depth = suc d + 1;
             ended = w.ended;
           }
 
       abbrev pub buffer : List ℕ
-      buffer = put (part_of s x.place x.length) b kept
+      buffer = put (part_of s x.name.place x.name.length) b kept
 
-      module _ (sized : Sized most w) (l : suc d < most) (fits : kept + x.length ≤ length b) (inside : x.place + x.length ≤ length s) where
+      module _ (sized : Sized most w) (l : suc d < most) (fits : kept + x.name.length ≤ length b) (inside : x.name.place + x.name.length ≤ length s) where
         untouched : (xs : List ℕ) (i u v : ℕ) → i < d → get_or (set (set xs d u) (suc d) v) i 0 ≡ get_or xs i 0
         untouched xs i u v k =
             get_or-set_other (set xs d u) (suc d) i v 0 (λ z. omega arith) ∙ get_or-set_other xs d i u 0 (λ z. omega arith)
@@ -233,20 +230,20 @@ module _ (most : ℕ) (s : List ℕ) (room : ℕ) where
               places = λ i k. untouched w.places i x.next n.place k;
               offsets = λ i k. below w.offsets i x.offset (omega arith);
               left = λ i k. untouched w.left i (get_or w.left d 0 - 1) n.children k;
-              lengths = λ i k. below w.lengths i (kept + x.length) (omega arith);
+              lengths = λ i k. below w.lengths i (kept + x.name.length) (omega arith);
             }
 
-        bytes_long : length (part_of s x.place x.length) ≡ x.length
-        bytes_long = part_length s x.place x.length inside
+        bytes_long : length (part_of s x.name.place x.name.length) ≡ x.name.length
+        bytes_long = part_length s x.name.place x.name.length inside
 
-        bytes_fit : kept + length (part_of s x.place x.length) ≤ length b
+        bytes_fit : kept + length (part_of s x.name.place x.name.length) ≤ length b
         bytes_fit = omega (arith, bytes_long, fits)
 
-        pub name_put : take (kept + x.length) buffer ≡ name
+        pub name_put : take (kept + x.name.length) buffer ≡ name
         name_put =
-            ap (λ (k : ℕ). take (kept + k) buffer) (sym bytes_long) ∙ put_name (part_of s x.place x.length) b kept bytes_fit
+            ap (λ (k : ℕ). take (kept + k) buffer) (sym bytes_long) ∙ put_name (part_of s x.name.place x.name.length) b kept bytes_fit
 
-        pub opened_ahead : (get_or w.left d 0 ≡ 0 → ⊥) → child_at s room (top_down w.offsets (suc d)) kept (get_or w.places d 0) ≡ Found x n
+        pub opened_ahead : (get_or w.left d 0 ≡ 0 → ⊥) → child_at s room (top_down w.offsets (suc d)) kept (get_or w.places d 0) ≡ Ok (x, n)
             → ahead_at w b (suc d) ≡ gives (visit name x.offset n.terminal) (ahead_at after buffer (suc (suc d)))
         unfolding entered subtree_by ◌then◌ ahead_at top_down
         opened_ahead z e =
@@ -255,14 +252,14 @@ module _ (most : ℕ) (s : List ℕ) (room : ℕ) where
             let below-it = children s room (subtree s room (most - suc (suc d))) (x.offset ∷ top_down w.offsets (suc d)) name n.children n.place in
             let t : top_down w.offsets (suc d) ≡ top_down after.offsets (suc d) = sym (top_same after.offsets w.offsets (suc d) (λ i m. below w.offsets i x.offset m)) in
             let f : get_or after.offsets (suc d) 0 ≡ x.offset = on_top_lem w.offsets x.offset sized.offsets in
-            let m : name ≡ take (get_or after.lengths (suc d) 0) buffer = sym name_put ∙ ap (λ (k : ℕ). take k buffer) (sym (on_top_lem w.lengths (kept + x.length) sized.lengths)) in
+            let m : name ≡ take (get_or after.lengths (suc d) 0) buffer = sym name_put ∙ ap (λ (k : ℕ). take k buffer) (sym (on_top_lem w.lengths (kept + x.name.length) sized.lengths)) in
             let c : get_or after.left (suc d) 0 ≡ n.children = on_top_lem (set w.left d (get_or w.left d 0 - 1)) n.children (length-set w.left d (get_or w.left d 0 - 1) ∙ sized.left) in
             let p : get_or after.places (suc d) 0 ≡ n.place = on_top_lem (set w.places d x.next) n.place (length-set w.places d x.next ∙ sized.places) in
             let m₂ : take kept b ≡ take (get_or after.lengths d 0) buffer =
-            sym (put_before (part_of s x.place x.length) b kept bytes_fit kept (omega arith)) ∙ ap (λ (k : ℕ). take k buffer) (sym (below w.lengths d (kept + x.length) (omega arith))) in
+            sym (put_before (part_of s x.name.place x.name.length) b kept bytes_fit kept (omega arith)) ∙ ap (λ (k : ℕ). take k buffer) (sym (below w.lengths d (kept + x.name.length) (omega arith))) in
             let c₂ = under w.left (get_or w.left d 0 - 1) n.children sized.left in
             let p₂ = under w.places x.next n.place sized.places in
-            let r = ahead_same after w b buffer kept d same_below (λ i m. put_before (part_of s x.place x.length) b kept bytes_fit i m) h.1 in
+            let r = ahead_same after w b buffer kept d same_below (λ i m. put_before (part_of s x.name.place x.name.length) b kept bytes_fit i m) h.1 in
             child_ahead z e
             ∙ ap (λ (k : ℕ). (subtree s room k (top_down w.offsets (suc d)) name x.offset n then later x.next) then ahead_at w b d) k
             ∙ ap (gives v) (then_then below-it (later x.next) (ahead_at w b d))
@@ -276,14 +273,14 @@ module _ (most : ℕ) (s : List ℕ) (room : ℕ) where
               places = length-set (set w.places d x.next) (suc d) n.place ∙ length-set w.places d x.next ∙ sized.places;
               offsets = length-set w.offsets (suc d) x.offset ∙ sized.offsets;
               left = length-set (set w.left d (get_or w.left d 0 - 1)) (suc d) n.children ∙ length-set w.left d (get_or w.left d 0 - 1) ∙ sized.left;
-              lengths = length-set w.lengths (suc d) (kept + x.length) ∙ sized.lengths;
+              lengths = length-set w.lengths (suc d) (kept + x.name.length) ∙ sized.lengths;
             }
 
         length-after : length buffer ≡ length b
-        length-after = put_length (part_of s x.place x.length) b kept bytes_fit
+        length-after = put_length (part_of s x.name.place x.name.length) b kept bytes_fit
 
         pub nested_after : Nested after (length buffer) (suc (suc d))
         nested_after =
-            let m = on_top_lem w.lengths (kept + x.length) sized.lengths in
-            let m₂ = below w.lengths d (kept + x.length) (omega arith) in
+            let m = on_top_lem w.lengths (kept + x.name.length) sized.lengths in
+            let m₂ = below w.lengths d (kept + x.name.length) (omega arith) in
             (omega (arith, m, length-after, fits), (omega (arith, m, m₂), rw m₂ (nested_same after w kept d same_below h.1)))

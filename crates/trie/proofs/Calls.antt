@@ -1,4 +1,4 @@
--- A call, by the way that it goes before and at the root: for `search`. Assumes nothing.
+-- A call, by the way that it goes before and at the root. Assumes nothing.
 use Prim.Native.Nat.{ℕ, suc, ◌-◌, ◌≤◌}
 use mathlib.Core.Path.{◌≡◌, sym, ap, ◌∙◌}
 use mathlib.Core.Bool.{Bool, true, false, cond, ◌||◌}
@@ -19,37 +19,32 @@ use Rattle.trie.specs.declared.TrieStep.{TrieStep}
 use Rattle.trie.specs.declared.TrieWalk.{TrieWalk}
 use Rattle.nodes.specs.declared.export.Export.{Export}
 use Rattle.nodes.specs.declared.node.Node.{Node}
-use Rattle.nodes.specs.declared.node.NodeRead.{NodeRead}
-use Rattle.nodes.specs.declared.node.NodeRead.TheVariants as node
-use Rattle.nodes.specs.declared.node.Terminal.{Terminal}
-use Rattle.nodes.specs.declared.node.Terminal.TheVariants as terminal
+use Rattle.std.specs.Prelude.{Option, Some, None}
 
 -- ---- the root: k nodes more may be visited
 
-module _ (s : List ℕ) (given : TrieWalk) (k : ℕ) (b : List ℕ) {x : NodeRead} (q : x ≡ node_at s 0) where
+module _ (s : List ℕ) (given : TrieWalk) (k : ℕ) (b : List ℕ) {x : Option Node} (q : x ≡ node_at s 0) where
   abbrev Root : Reply × List ℕ → Type 0
   Root p = p ≡ seen (visit_root 256 s given k b (node_at s 0))
 
-  pub no_root : x ≡ node.Fault → {r : TrieStep} → r ≡ record { answer = answer.Refused FaultyNode; walk = marked given; visits = 0 } → Root (told r, b)
+  pub no_root : x ≡ None → {r : TrieStep} → r ≡ record { answer = answer.Refused FaultyNode; walk = marked given; visits = 0 } → Root (told r, b)
   unfolding visit_root
-  no_root f p = (λ i. (told (p i), b)) ∙ ap (λ (y : NodeRead). seen (visit_root 256 s given k b y)) (sym f ∙ q)
+  no_root f p = (λ i. (told (p i), b)) ∙ ap (λ (y : Option Node). seen (visit_root 256 s given k b y)) (sym f ∙ q)
 
-  module _ {n : Node} (f : x ≡ node.Found n) where
-    at_root : {t : Terminal} → n.terminal ≡ t → seen (visited (onward 256 s given k) 0 1 (rooted given n) b t) ≡ seen (visit_root 256 s given k b (node_at s 0))
+  module _ {n : Node} (f : x ≡ Some n) where
+    at_root : {t : Option Export} → n.terminal ≡ t → seen (visited (onward 256 s given k) 0 1 (rooted given n) b t) ≡ seen (visit_root 256 s given k b (node_at s 0))
     unfolding visit_root
     at_root y =
-        ap (λ (t : Terminal). seen (visited (onward 256 s given k) 0 1 (rooted given n) b t)) (sym y)
-        ∙ ap (λ (y : NodeRead). seen (visit_root 256 s given k b y)) (sym f ∙ q)
+        ap (λ (t : Option Export). seen (visited (onward 256 s given k) 0 1 (rooted given n) b t)) (sym y)
+        ∙ ap (λ (y : Option Node). seen (visit_root 256 s given k b y)) (sym f ∙ q)
 
-    pub root_exports : {y : Export} → n.terminal ≡ terminal.Export y → {r : TrieStep} → r ≡ record { answer = answer.Export 0 y; walk = rooted given n; visits = 1 } → Root (told r, b)
+    pub root_exports : {y : Export} → n.terminal ≡ Some y → {r : TrieStep} → r ≡ record { answer = answer.Export 0 y; walk = rooted given n; visits = 1 } → Root (told r, b)
     unfolding visited
     root_exports y p = (λ i. (told (p i), b)) ∙ at_root y
 
-    pub root_on : n.terminal ≡ terminal.NoExport → {p : Reply × List ℕ} → p ≡ seen (onward 256 s given k 1 (rooted given n) b) → Root p
+    pub root_on : n.terminal ≡ None → {p : Reply × List ℕ} → p ≡ seen (onward 256 s given k 1 (rooted given n) b) → Root p
     unfolding visited
     root_on y p = p ∙ at_root y
-
-pub ruleset rooting = (no_root, root_exports, root_on)
 
 -- ---- before the first visit
 

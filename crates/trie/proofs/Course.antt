@@ -10,28 +10,24 @@ use lib.Dec.{leb, eqb}
 use lib.ListN.{length, get_or}
 use Rattle.nodes.specs.Exported.{export_told}
 use Rattle.nodes.specs.ExportsTrie.{node_at}
-use Rattle.nodes.specs.declared.child.Child.{Child}
-use Rattle.nodes.specs.declared.child.Child.TheVariants.{Found, Refused}
 use Rattle.nodes.specs.declared.export.Export.{Export}
 use Rattle.nodes.specs.declared.node.Edge.{Edge}
 use Rattle.nodes.specs.declared.node.Node.{Node}
-use Rattle.nodes.specs.declared.node.NodeRead.{NodeRead}
-use Rattle.nodes.specs.declared.node.NodeRead.TheVariants as node
-use Rattle.nodes.specs.declared.node.Terminal.{Terminal}
-use Rattle.nodes.specs.declared.node.Terminal.TheVariants as terminal
 use Rattle.refusal.specs.Numbers.{number_of}
 use Rattle.refusal.specs.declared.Refusal.{Refusal}
 use Rattle.refusal.specs.declared.Refusal.TheVariants.{FaultyNode, TooManyOpenNodes, StateOutOfRange}
 use Rattle.trie.specs.Call.{at_depth, marked, closed, rooted, child_of, child_name, child_opened, edge_put, Answer, export, more, end, refused, Outcome, replied, refusing, visited, visit_child, onward, visit_root, go_on, call}
 use Rattle.trie.specs.Frames.{out_of_range, still_open}
 use Rattle.trie.specs.declared.TrieWalk.{TrieWalk}
+use Rattle.nodes.specs.Child.{Child}
+use Rattle.std.specs.Prelude.{Option, Some, None, Ok, Err}
 
 -- ---- what comes next: nothing, a refusal, or a node, with the length of its name and what is left behind
 
 pub data Next : Type 0 where
   over : Next
   failed : (number : ℕ) → Next
-  reached : (len : ℕ) → Terminal → TrieWalk → (buffer : List ℕ) → Next
+  reached : (len : ℕ) → Option Export → TrieWalk → (buffer : List ℕ) → Next
 
 -- a node is open
 abbrev pub Begun : TrieWalk → Type 0
@@ -47,14 +43,14 @@ has_begun w z e = z (ap (still_open w.left) e)
 
 module _ (most : ℕ) (s : List ℕ) where
   abbrev pub child_next : TrieWalk → List ℕ → Child → Next
-  child_next w b (Refused e) = failed (number_of e)
-  child_next w b (Found e n) =
+  child_next w b (Err e) = failed (number_of e)
+  child_next w b (Ok (e, n)) =
       cond (leb most w.depth) (failed (number_of TooManyOpenNodes))
       (reached (child_name w e) n.terminal (child_opened w e n) (edge_put s w e b))
 
-  abbrev pub root_next : TrieWalk → List ℕ → NodeRead → Next
-  root_next w b node.Fault = failed (number_of FaultyNode)
-  root_next w b (node.Found n) =
+  abbrev pub root_next : TrieWalk → List ℕ → Option Node → Next
+  root_next w b None = failed (number_of FaultyNode)
+  root_next w b (Some n) =
       cond (leb most 0) (failed (number_of TooManyOpenNodes)) (reached 0 n.terminal (rooted w n) b)
 
   -- of a walk whose finished nodes are closed
@@ -93,33 +89,33 @@ module _ (most : ℕ) (s : List ℕ) where
 module _ (most : ℕ) (s : List ℕ) (w : TrieWalk) (b : List ℕ) where
   pub record Cases (Q : Next → Type 0) : Type 0 where
     pub done : Begun w → still_open w.left w.depth ≡ 0 → Q over
-    pub bad : Unfinished w → (x : Refusal) → child_of s (length b) (closed w) ≡ Refused x → Q (failed (number_of x))
-    pub full : Unfinished w → (e : Edge) (n : Node) → child_of s (length b) (closed w) ≡ Found e n → most ≤ still_open w.left w.depth
+    pub bad : Unfinished w → (x : Refusal) → child_of s (length b) (closed w) ≡ Err x → Q (failed (number_of x))
+    pub full : Unfinished w → (e : Edge) (n : Node) → child_of s (length b) (closed w) ≡ Ok (e, n) → most ≤ still_open w.left w.depth
         → Q (failed (number_of TooManyOpenNodes))
-    pub child : Unfinished w → (e : Edge) (n : Node) → child_of s (length b) (closed w) ≡ Found e n → still_open w.left w.depth < most
+    pub child : Unfinished w → (e : Edge) (n : Node) → child_of s (length b) (closed w) ≡ Ok (e, n) → still_open w.left w.depth < most
         → Q (reached (child_name (closed w) e) n.terminal (child_opened (closed w) e n) (edge_put s (closed w) e b))
-    pub none : w.depth ≡ 0 → node_at s 0 ≡ node.Fault → Q (failed (number_of FaultyNode))
-    pub shut : w.depth ≡ 0 → (n : Node) → node_at s 0 ≡ node.Found n → most ≤ 0 → Q (failed (number_of TooManyOpenNodes))
-    pub root : w.depth ≡ 0 → (n : Node) → node_at s 0 ≡ node.Found n → 0 < most → Q (reached 0 n.terminal (rooted w n) b)
+    pub none : w.depth ≡ 0 → node_at s 0 ≡ None → Q (failed (number_of FaultyNode))
+    pub shut : w.depth ≡ 0 → (n : Node) → node_at s 0 ≡ Some n → most ≤ 0 → Q (failed (number_of TooManyOpenNodes))
+    pub root : w.depth ≡ 0 → (n : Node) → node_at s 0 ≡ Some n → 0 < most → Q (reached 0 n.terminal (rooted w n) b)
 
   module _ (Q : Next → Type 0) (c : Cases Q) where
-    depth_by : Unfinished w → (e : Edge) (n : Node) → child_of s (length b) (closed w) ≡ Found e n
+    depth_by : Unfinished w → (e : Edge) (n : Node) → child_of s (length b) (closed w) ≡ Ok (e, n)
         → (t : Bool) → leb most (still_open w.left w.depth) ≡ t
         → Q (cond t (failed (number_of TooManyOpenNodes)) (reached (child_name (closed w) e) n.terminal (child_opened (closed w) e n) (edge_put s (closed w) e b)))
     depth_by z e n f true q = c.full z e n f (leb-true most (still_open w.left w.depth) q)
     depth_by z e n f false q = c.child z e n f (leb-false most (still_open w.left w.depth) q)
 
     child_by_lem : Unfinished w → (x : Child) → child_of s (length b) (closed w) ≡ x → Q (child_next most s (closed w) b x)
-    child_by_lem z (Refused x) f = c.bad z x f
-    child_by_lem z (Found e n) f = depth_by z e n f (leb most (still_open w.left w.depth)) refl
+    child_by_lem z (Err x) f = c.bad z x f
+    child_by_lem z (Ok (e, n)) f = depth_by z e n f (leb most (still_open w.left w.depth)) refl
 
     open_by : Begun w → (t : Bool) → eqb (still_open w.left w.depth) 0 ≡ t → Q (cond t over (child_next most s (closed w) b (child_of s (length b) (closed w))))
     open_by y true e = c.done y (eqb-true (still_open w.left w.depth) 0 e)
     open_by y false e = child_by_lem (eqb-false (still_open w.left w.depth) 0 e) (child_of s (length b) (closed w)) refl
 
-    root_by : w.depth ≡ 0 → (x : NodeRead) → node_at s 0 ≡ x → Q (root_next most s w b x)
-    root_by y node.Fault e = c.none y e
-    root_by y (node.Found n) e = by (leb most 0) refl
+    root_by : w.depth ≡ 0 → (x : Option Node) → node_at s 0 ≡ x → Q (root_next most s w b x)
+    root_by y None e = c.none y e
+    root_by y (Some n) e = by (leb most 0) refl
       where
         by : (t : Bool) → leb most 0 ≡ t → Q (cond t (failed (number_of TooManyOpenNodes)) (reached 0 n.terminal (rooted w n) b))
         by true q = c.shut y n e (leb-true most 0 q)
@@ -143,9 +139,9 @@ module _ (most : ℕ) (s : List ℕ) where
     refuses : {k n : ℕ} {w v : TrieWalk} {b : List ℕ} {x : ℕ} → next most s w b ≡ failed x → at_depth w.depth v ≡ w → Course given k n w b (refusing x given v n b)
     waits : {n : ℕ} {w : TrieWalk} {b : List ℕ} → Course given 0 n w b (replied more w n b)  -- a limit of 0 closes nothing
     limits : {n : ℕ} {w : TrieWalk} {b : List ℕ} → Unfinished w → Course given 0 n w b (replied more (closed w) n b)
-    exports : {k n len : ℕ} {w v : TrieWalk} {b c : List ℕ} {x : Export} → next most s w b ≡ reached len (terminal.Export x) v c
+    exports : {k n len : ℕ} {w v : TrieWalk} {b c : List ℕ} {x : Export} → next most s w b ≡ reached len (Some x) v c
         → Course given (suc k) n w b (replied (export len (export_told x)) v (n + 1) c)
-    visits : {k n len : ℕ} {w v : TrieWalk} {b c : List ℕ} {o : Outcome} → next most s w b ≡ reached len terminal.NoExport v c → Course given k (n + 1) v c o
+    visits : {k n len : ℕ} {w v : TrieWalk} {b c : List ℕ} {o : Outcome} → next most s w b ≡ reached len None v c → Course given k (n + 1) v c o
         → Course given (suc k) n w b o
 
   module _ (given : TrieWalk) where
@@ -153,15 +149,15 @@ module _ (most : ℕ) (s : List ℕ) where
     Has k on = (n : ℕ) (w : TrieWalk) (b : List ℕ) → Begun w → Course given k n w b (on n w b)
 
     module _ {k : ℕ} (on : (n : ℕ) → TrieWalk → List ℕ → Outcome) (has : Has k on) (n : ℕ) (w : TrieWalk) (b : List ℕ) where
-      visit_course : (len : ℕ) (v : TrieWalk) (c : List ℕ) → Begun v → (t : Terminal) → next most s w b ≡ reached len t v c → Course given (suc k) n w b (visited on len (n + 1) v c t)
+      visit_course : (len : ℕ) (v : TrieWalk) (c : List ℕ) → Begun v → (t : Option Export) → next most s w b ≡ reached len t v c → Course given (suc k) n w b (visited on len (n + 1) v c t)
       unfolding visited
-      visit_course len v c y terminal.NoExport e = visits e (has (n + 1) v c y)
-      visit_course len v c y (terminal.Export x) e = exports e
+      visit_course len v c y None e = visits e (has (n + 1) v c y)
+      visit_course len v c y (Some x) e = exports e
 
       child_course : (u : TrieWalk) → at_depth w.depth u ≡ w → (x : Child) → next most s w b ≡ child_next most s u b x → Course given (suc k) n w b (visit_child most s on given n u b x)
       unfolding visit_child
-      child_course u d (Refused e) q = refuses q d
-      child_course u d (Found e x) q = by (leb most u.depth) q
+      child_course u d (Err e) q = refuses q d
+      child_course u d (Ok (e, x)) q = by (leb most u.depth) q
         where
           by : (t : Bool)
               → next most s w b ≡ cond t (failed (number_of TooManyOpenNodes)) (reached (child_name u e) x.terminal (child_opened u e x) (edge_put s u e b))
@@ -189,10 +185,10 @@ module _ (most : ℕ) (s : List ℕ) where
         by ih false e =
             child_course (onward most s given k) ih n w b (closed w) refl (child_of s (length b) (closed w)) (ends_at w b y e)
 
-    root_course : (k : ℕ) (b : List ℕ) (x : NodeRead) → next most s given b ≡ root_next most s given b x → Course given (suc k) 0 given b (visit_root most s given k b x)
+    root_course : (k : ℕ) (b : List ℕ) (x : Option Node) → next most s given b ≡ root_next most s given b x → Course given (suc k) 0 given b (visit_root most s given k b x)
     unfolding visit_root
-    root_course k b node.Fault q = refuses q refl
-    root_course k b (node.Found n) q = by (leb most 0) q
+    root_course k b None q = refuses q refl
+    root_course k b (Some n) q = by (leb most 0) q
       where
         by : (t : Bool) → next most s given b ≡ cond t (failed (number_of TooManyOpenNodes)) (reached 0 n.terminal (rooted given n) b)
             → Course given (suc k) 0 given b (cond t (refusing (number_of TooManyOpenNodes) given given 0 b) (visited (onward most s given k) 0 1 (rooted given n) b n.terminal))

@@ -22,10 +22,9 @@ use Rattle.nodes.specs.Child.{any}
 use Rattle.nodes.specs.ExportsTrie.{node_at}
 use Rattle.trie.specs.Frames.{top_down, out_of_range, still_open}
 use Rattle.trie.specs.declared.TrieWalk.{TrieWalk}
-use Rattle.nodes.specs.declared.child.Child.TheVariants.{Found}
 use Rattle.nodes.specs.declared.node.Edge.{Edge}
 use Rattle.nodes.specs.declared.node.Node.{Node}
-use Rattle.nodes.specs.declared.node.NodeRead.TheVariants as node
+use Rattle.std.specs.Prelude.{Some, Ok}
 
 -- ---- a state in range, element by element
 
@@ -88,7 +87,7 @@ module _ (xs : List ℕ) (i v bound : ℕ) (h : v ≤ bound) where
 
 -- ---- a child that may be opened: what was read of it lies in the bytes, and its name fits the buffer
 
-module _ (s : List ℕ) (w : TrieWalk) (b : List ℕ) (e : Edge) (n : Node) (g : child_of s (length b) (closed w) ≡ Found e n) where
+module _ (s : List ℕ) (w : TrieWalk) (b : List ℕ) (e : Edge) (n : Node) (g : child_of s (length b) (closed w) ≡ Ok (e, n)) where
   abbrev kept : ℕ
   kept = on_top (closed w) w.lengths
 
@@ -103,8 +102,8 @@ module _ (s : List ℕ) (w : TrieWalk) (b : List ℕ) (e : Edge) (n : Node) (g :
 
   pub buffer_long : length (edge_put s (closed w) e b) ≡ length b
   buffer_long =
-      let p = part_length s e.place e.length within.inside in
-      put_length (part_of s e.place e.length) b kept (omega (arith, p, read.fits))
+      let p = part_length s e.name.place e.name.length within.inside in
+      put_length (part_of s e.name.place e.name.length) b kept (omega (arith, p, read.fits))
 
 -- ---- a state in range stays so
 
@@ -130,7 +129,7 @@ module _ (most : ℕ) (s : List ℕ) (room : ℕ) (w : TrieWalk) (b : List ℕ) 
         };
       }
 
-  module _ (z : Unfinished w) (e : Edge) (n : Node) (g : child_of s (length b) (closed w) ≡ Found e n) (l : still_open w.left w.depth < most) where
+  module _ (z : Unfinished w) (e : Edge) (n : Node) (g : child_of s (length b) (closed w) ≡ Ok (e, n)) (l : still_open w.left w.depth < most) where
     place_in : n.place ≤ length s
     place_in = (counted s w b e n g).inside
 
@@ -165,7 +164,7 @@ module _ (most : ℕ) (s : List ℕ) (room : ℕ) (w : TrieWalk) (b : List ℕ) 
           };
         }
 
-  sound_root : (n : Node) → node_at s 0 ≡ node.Found n → 0 < most → Sound most s room (rooted w n) b
+  sound_root : (n : Node) → node_at s 0 ≡ Some n → 0 < most → Sound most s room (rooted w n) b
   sound_root n e l =
       record {
         long = h.long;

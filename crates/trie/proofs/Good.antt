@@ -18,18 +18,15 @@ use Rattle.trie.proofs.Course.{Next, over, failed, reached, Begun, Unfinished, h
 use Rattle.trie.proofs.Fits.{Sound, sound_closed, sound_next, read, within}
 use Rattle.trie.proofs.Visits.{has_child}
 use Rattle.trie.specs.Call.{at_start, closed, on_top, rooted, child_of, child_name, child_opened, edge_put}
-use Rattle.nodes.specs.Child.{then_node}
-use Rattle.nodes.specs.ExportsTrie.{node_at}
+use Rattle.nodes.specs.ExportsTrie.{then_read, node_at}
 use Rattle.trie.specs.Frames.{top_down, still_open}
 use Rattle.trie.specs.NextChild.{child_at}
 use Rattle.nodes.specs.Listing.{Visit, visit, children, subtree_by, subtree, listing_by, listing}
 use Rattle.trie.specs.declared.TrieWalk.{TrieWalk}
-use Rattle.nodes.specs.declared.child.Child.{Child}
-use Rattle.nodes.specs.declared.child.Child.TheVariants.{Found, Refused}
 use Rattle.nodes.specs.declared.node.Edge.{Edge}
 use Rattle.nodes.specs.declared.node.Node.{Node}
-use Rattle.nodes.specs.declared.node.NodeRead.{NodeRead}
-use Rattle.nodes.specs.declared.node.NodeRead.TheVariants as node
+use Rattle.nodes.specs.Child.{Child}
+use Rattle.std.specs.Prelude.{Option, Some, None, Ok, Err}
 
 pub record Good (most : ℕ) (s : List ℕ) (room : ℕ) (w : TrieWalk) (b : List ℕ) : Type 0 where
   pub sound : Sound most s room w b
@@ -106,10 +103,10 @@ module _ (most : ℕ) (s : List ℕ) (room : ℕ) where
       read_as f =
           sym (λ i. child_at s (r i) (top_down w.offsets (q i)) (on_top (closed w) w.lengths) (on_top (closed w) w.places)) ∙ f
 
-      bad_lists : (x : Refusal) → child_of s (length b) (closed w) ≡ Refused x → ahead w b ≡ fails (number_of x)
+      bad_lists : (x : Refusal) → child_of s (length b) (closed w) ≡ Err x → ahead w b ≡ fails (number_of x)
       bad_lists x f = here ∙ refused_ahead most s room (closed w) b d nest some (read_as f)
 
-      module _ (e : Edge) (n : Node) (f : child_of s (length b) (closed w) ≡ Found e n) where
+      module _ (e : Edge) (n : Node) (f : child_of s (length b) (closed w) ≡ Ok (e, n)) where
         full_lists : most ≤ still_open w.left w.depth → ahead w b ≡ fails (number_of TooManyOpenNodes)
         full_lists l = here ∙ full_ahead most s room (closed w) b d nest e n some (read_as f) (omega arith)
 
@@ -126,7 +123,7 @@ module _ (most : ℕ) (s : List ℕ) (room : ℕ) where
           fits : child_name (closed w) e ≤ length b
           fits = (read s w b e n f).fits
 
-          inside : e.place + e.length ≤ length s
+          inside : e.name.place + e.name.length ≤ length s
           inside = (within s w b e n f).inside
 
           v_is : after most s room (closed w) b d nest e n ≡ v
@@ -166,18 +163,18 @@ module _ (most : ℕ) (s : List ℕ) (room : ℕ) where
     -- ---- the root
 
     module _ (y : w.depth ≡ 0) where
-      first_lists : {x : NodeRead} → node_at s 0 ≡ x → ahead w b ≡ then_node x (fails (number_of FaultyNode)) (λ n. subtree s room most [] [] 0 n)
+      first_lists : {x : Option Node} → node_at s 0 ≡ x → ahead w b ≡ then_read x (fails (number_of FaultyNode)) (λ n. subtree s room most [] [] 0 n)
       unfolding listing_by
       first_lists e =
-          ahead_first w b y ∙ ap (λ (x : NodeRead). then_node x (fails (number_of FaultyNode)) (λ n. subtree s room most [] [] 0 n)) e
+          ahead_first w b y ∙ ap (λ (x : Option Node). then_read x (fails (number_of FaultyNode)) (λ n. subtree s room most [] [] 0 n)) e
 
-      none_lists : node_at s 0 ≡ node.Fault → ahead w b ≡ fails (number_of FaultyNode)
-      unfolding then_node
+      none_lists : node_at s 0 ≡ None → ahead w b ≡ fails (number_of FaultyNode)
+      unfolding then_read
       none_lists e = first_lists e
 
-      module _ (n : Node) (e : node_at s 0 ≡ node.Found n) where
+      module _ (n : Node) (e : node_at s 0 ≡ Some n) where
         root_lists_as : (k : ℕ) → most ≡ k → ahead w b ≡ subtree s room k [] [] 0 n
-        unfolding then_node
+        unfolding then_read
         root_lists_as k q = first_lists e ∙ ap (λ (k : ℕ). subtree s room k [] [] 0 n) q
 
         shut_lists : most ≤ 0 → ahead w b ≡ fails (number_of TooManyOpenNodes)

@@ -3,7 +3,6 @@ use Prim.Native.Nat.{ℕ, zero, suc, ◌+◌, ◌≤◌, ◌<◌}
 use mathlib.Core.Path.{◌≡◌, refl, sym, ap, ◌∙◌, subst}
 use mathlib.Core.Bool.{false, true≢false}
 use mathlib.Core.List.{List, [], ◌∷◌, ◌++◌}
-use mathlib.Core.Option.{some}
 use native.Mathlib.Omega.{arith}
 use lib.ListN.{length, take}
 use Rattle.runs.specs.Runs.{Run, stops, fails, gives}
@@ -17,6 +16,7 @@ use Rattle.nodes.specs.Symbols.{Symbol, symbol, Ending, at_end, at_refusal, with
 use Rattle.trie.specs.Joined.{Joined, joined, join, calls, joined_in}
 use Rattle.nodes.specs.Listing.{Visit, visit, listing}
 use Rattle.trie.specs.declared.TrieWalk.{TrieWalk}
+use Rattle.std.specs.Prelude.{Some}
 
 module _ (most : ℕ) (s : List ℕ) (room : ℕ) where
   -- ---- the visits from a state on say what it has ahead
@@ -45,7 +45,7 @@ module _ (most : ℕ) (s : List ℕ) (room : ℕ) where
           let q = h.1 in
           let m : ahead most s room v c ≡ l = cc in
           let n : visit (take len c) h.0 t ≡ u = cc in
-          subst (λ (x : Visit). Says most s w b (joined (with_symbol x.name x.terminal (exports_in l)) (1 + visits_in l) (some (ending_of l)))) n
+          subst (λ (x : Visit). Says most s w b (joined (with_symbol x.name x.terminal (exports_in l)) (1 + visits_in l) (Some (ending_of l)))) n
           (says_reached f (ih v c (subst (IfReached (Good most s room)) f k) m))
 
   -- ---- a call, and what is ahead after it
@@ -123,13 +123,13 @@ module _ (most : ℕ) (s : List ℕ) (room : ℕ) where
       let m = (course_moves most s room (course_is most s room (suc k) w b g)).1 (omega arith) z in
       omega (arith, e, m)
 
-  ends_by : (a : Answer) (n : ℕ) (b : List ℕ) (j : Joined) → (halts a ≡ false → (e : Ending) × (j.ending ≡ some e)) → (e : Ending) × ((join n b j a).ending ≡ some e)
+  ends_by : (a : Answer) (n : ℕ) (b : List ℕ) (j : Joined) → (halts a ≡ false → (e : Ending) × (j.ending ≡ Some e)) → (e : Ending) × ((join n b j a).ending ≡ Some e)
   ends_by (export len x) n b j h = h refl
   ends_by more n b j h = h refl
   ends_by end n b j h = (at_end, refl)
   ends_by (refused number) n b j h = (at_refusal number, refl)
 
-  calls_end : (ks : List ℕ) (w : TrieWalk) (b : List ℕ) → Good most s room w b → visits_in (ahead most s room w b) < nonzero ks → (e : Ending) × ((calls most s w b ks).ending ≡ some e)
+  calls_end : (ks : List ℕ) (w : TrieWalk) (b : List ℕ) → Good most s room w b → visits_in (ahead most s room w b) < nonzero ks → (e : Ending) × ((calls most s w b ks).ending ≡ Some e)
   unfolding calls
   calls_end [] w b g h = unfold nonzero in absurd (omega arith)
   calls_end (k ∷ ks) w b g h =
@@ -141,7 +141,7 @@ module _ (most : ℕ) (s : List ℕ) (room : ℕ) where
 
 module _ (most : ℕ) (s b limits : List ℕ) where
   -- calls that come to an end say what the trie lists: its exports, the number of its visits, its ending
-  pub joined_says : {e : Ending} → (calls most s (at_start most) b limits).ending ≡ some e → calls most s (at_start most) b limits ≡ joined_in (listing s (length b) most)
+  pub joined_says : {e : Ending} → (calls most s (at_start most) b limits).ending ≡ Some e → calls most s (at_start most) b limits ≡ joined_in (listing s (length b) most)
   joined_says q =
       let g = good_start most s b in
       says_one most s (calls_say most s (length b) limits (at_start most) b g.sound q) (says_ahead most s (length b) (listing s (length b) most) (at_start most) b g refl)

@@ -1,5 +1,4 @@
 pub mod Searches
-pub mod Puts
 pub mod Children
 pub mod Visits
 pub mod Calls

@@ -4,10 +4,11 @@ use Prim.Native.Nat.{ℕ, suc, ◌+◌}
 use mathlib.Core.Path.{◌≡◌, refl, ap}
 use mathlib.Core.List.{List}
 use native.Mathlib.Omega.{arith}
-use Rattle.nodes.specs.declared.node.Terminal.{Terminal}
 use Rattle.trie.proofs.Course.{reached, next, Course, ends, refuses, waits, limits, exports, visits, call_by}
 use Rattle.trie.specs.Call.{refused, Outcome, call}
 use Rattle.trie.specs.declared.TrieWalk.{TrieWalk}
+use Rattle.nodes.specs.declared.export.Export.{Export}
+use Rattle.std.specs.Prelude.{Option}
 
 -- the arrays of a walk
 pub record Arrays : Type 0 where
@@ -23,7 +24,7 @@ module _ (most : ℕ) (s : List ℕ) where
   -- so many visits lead from one walk and buffer to another
   pub data Leads : (n : ℕ) → TrieWalk → List ℕ → TrieWalk → List ℕ → Type 0 where
     here : {w : TrieWalk} {b : List ℕ} → Leads 0 w b w b
-    visit : {n len : ℕ} {t : Terminal} {w v u : TrieWalk} {b c d : List ℕ} → next most s w b ≡ reached len t v c → Leads n v c u d → Leads (suc n) w b u d
+    visit : {n len : ℕ} {t : Option Export} {w v u : TrieWalk} {b c d : List ℕ} → next most s w b ≡ reached len t v c → Leads n v c u d → Leads (suc n) w b u d
 
   -- n nodes were visited before
   pub record Came (n : ℕ) (w : TrieWalk) (b : List ℕ) (o : Outcome) : Type 0 where

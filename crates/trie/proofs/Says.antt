@@ -4,7 +4,6 @@ use Prim.Native.Nat.{ℕ, ◌+◌}
 use mathlib.Core.Path.{◌≡◌, refl, sym, ◌∙◌, subst}
 use mathlib.Core.Bool.{false, true≢false}
 use mathlib.Core.List.{List, [], ◌∷◌}
-use mathlib.Core.Option.{some}
 use native.Mathlib.Omega.{arith}
 use lib.ListN.{length, take}
 use Rattle.trie.proofs.Course.{over, failed, reached, next, next_closed, Course, ends, refuses, waits, limits, exports, visits, InRange, call_course, halts, course_keeps}
@@ -13,14 +12,14 @@ use Rattle.trie.specs.Call.{Answer, export, more, end, refused, Outcome, call}
 use Rattle.nodes.specs.Symbols.{Ending, at_end, at_refusal, with_symbol}
 use Rattle.trie.specs.Joined.{Joined, joined, join, calls}
 use Rattle.trie.specs.declared.TrieWalk.{TrieWalk}
-use Rattle.nodes.specs.declared.node.Terminal.{Terminal}
-use Rattle.nodes.specs.declared.node.Terminal.TheVariants as terminal
+use Rattle.nodes.specs.declared.export.Export.{Export}
+use Rattle.std.specs.Prelude.{Option, Some}
 
 module _ (most : ℕ) (s : List ℕ) where
   pub data Says : TrieWalk → List ℕ → Joined → Type 0 where
-    says_over : {w : TrieWalk} {b : List ℕ} → next most s w b ≡ over → Says w b (joined [] 0 (some at_end))
-    says_failed : {w : TrieWalk} {b : List ℕ} {x : ℕ} → next most s w b ≡ failed x → Says w b (joined [] 0 (some (at_refusal x)))
-    says_reached : {w : TrieWalk} {b : List ℕ} {len : ℕ} {t : Terminal} {v : TrieWalk} {c : List ℕ} {j : Joined} → next most s w b ≡ reached len t v c → Says v c j
+    says_over : {w : TrieWalk} {b : List ℕ} → next most s w b ≡ over → Says w b (joined [] 0 (Some at_end))
+    says_failed : {w : TrieWalk} {b : List ℕ} {x : ℕ} → next most s w b ≡ failed x → Says w b (joined [] 0 (Some (at_refusal x)))
+    says_reached : {w : TrieWalk} {b : List ℕ} {len : ℕ} {t : Option Export} {v : TrieWalk} {c : List ℕ} {j : Joined} → next most s w b ≡ reached len t v c → Says v c j
         → Says w b (joined (with_symbol (take len c) t j.exports) (1 + j.visits) j.ending)
 
   pub says_one : {w : TrieWalk} {b : List ℕ} {i j : Joined} → Says w b i → Says w b j → i ≡ j
@@ -55,9 +54,9 @@ module _ (most : ℕ) (s : List ℕ) where
 
   pub course_joins : {given : TrieWalk} {k n : ℕ} {w : TrieWalk} {b : List ℕ} {p : Outcome} (j : Joined) → Course most s given k n w b p
       → (halts p.reply.answer ≡ false → Says p.reply.walk p.buffer j) → Joins n w b p j
-  course_joins {n = n} j (ends e z) h = let q : n ≡ n + 0 = omega arith in record { said = _; says = says_over e; same = λ i. joined [] (q i) (some at_end) }
+  course_joins {n = n} j (ends e z) h = let q : n ≡ n + 0 = omega arith in record { said = _; says = says_over e; same = λ i. joined [] (q i) (Some at_end) }
   course_joins {n = n} j (refuses {x = x} e d) h =
-      let q : n ≡ n + 0 = omega arith in record { said = _; says = says_failed e; same = λ i. joined [] (q i) (some (at_refusal x)) }
+      let q : n ≡ n + 0 = omega arith in record { said = _; says = says_failed e; same = λ i. joined [] (q i) (Some (at_refusal x)) }
   course_joins j waits h = record { said = j; says = h refl; same = refl }
   course_joins j (limits {w = w} {b = b} y) h = record { said = j; says = says_as (next_closed most s w b y) (h refl); same = refl }
   course_joins {n = n} j (exports {len = len} {c = c} {x = x} e) h =
@@ -65,7 +64,7 @@ module _ (most : ℕ) (s : List ℕ) where
       record {
         said = _;
         says = says_reached e (h refl);
-        same = λ i. joined (with_symbol (take len c) (terminal.Export x) j.exports) (q i) j.ending;
+        same = λ i. joined (with_symbol (take len c) (Some x) j.exports) (q i) j.ending;
       }
   course_joins {n = n} j (visits e c) h =
       let r = course_joins j c h in
@@ -75,13 +74,13 @@ module _ (most : ℕ) (s : List ℕ) where
   -- ---- calls one after another
 
   -- where the joined calls have an ending, those after a call that goes on have it
-  ended_by : (n : ℕ) (b : List ℕ) (rest : Joined) (a : Answer) {e : Ending} → halts a ≡ false → (join n b rest a).ending ≡ some e → rest.ending ≡ some e
+  ended_by : (n : ℕ) (b : List ℕ) (rest : Joined) (a : Answer) {e : Ending} → halts a ≡ false → (join n b rest a).ending ≡ Some e → rest.ending ≡ Some e
   ended_by n b rest (export len x) z q = q
   ended_by n b rest more z q = q
   ended_by n b rest end z q = absurd (true≢false z)
   ended_by n b rest (refused number) z q = absurd (true≢false z)
 
-  pub calls_say : (room : ℕ) (ks : List ℕ) (w : TrieWalk) (b : List ℕ) → Sound most s room w b → {e : Ending} → (calls most s w b ks).ending ≡ some e → Says w b (calls most s w b ks)
+  pub calls_say : (room : ℕ) (ks : List ℕ) (w : TrieWalk) (b : List ℕ) → Sound most s room w b → {e : Ending} → (calls most s w b ks).ending ≡ Some e → Says w b (calls most s w b ks)
   unfolding calls
   calls_say room [] w b h q = let x : ◌≡◌ {A = ℕ} 0 1 = cc in absurd (omega arith)
   calls_say room (k ∷ ks) w b h q =
@@ -95,7 +94,7 @@ module _ (most : ℕ) (s : List ℕ) where
 
   -- the exports joined over calls do not depend on the limits
   pub alike : (w : TrieWalk) (b : List ℕ) → InRange most s (length b) w → w.ended ≡ false → (ks ls : List ℕ) {e f : Ending}
-      → (calls most s w b ks).ending ≡ some e → (calls most s w b ls).ending ≡ some f → calls most s w b ks ≡ calls most s w b ls
+      → (calls most s w b ks).ending ≡ Some e → (calls most s w b ls).ending ≡ Some f → calls most s w b ks ≡ calls most s w b ls
   alike w b r z ks ls p q =
       let h : Sound most s (length b) w b = record { long = refl; going = z; fit = fit most s (length b) w r } in
       says_one (calls_say (length b) ks w b h p) (calls_say (length b) ls w b h q)

@@ -1,80 +1,84 @@
--- One turn of each search through the open nodes, from the one on top down: for `search`. Assumes nothing.
-use Prim.Native.Nat.{ℕ, zero, suc, ◌-◌, ◌≤◌, ◌<◌}
-use mathlib.Core.Path.{◌≡◌, refl, sym, ap, ◌∙◌}
-use mathlib.Core.Bool.{Bool, true, false, cond, ◌||◌}
-use mathlib.Core.List.{List, ◌∷◌}
-use native.Mathlib.Nat.{lt_irrefl}
-use native.Mathlib.Omega.{arith}
+-- The searches through the open nodes: the first of an array, as the code lends them as a slice; and what the library's methods
+-- answer, as the definitions say it. Assumes nothing.
+use Rattle.std.proofs.Common.{◌≢◌, add-one, ◌+◌, ◌≡◌, ℕ, zero, suc, ◌≤◌, ◌<◌, Bool, true, false, cond, ◌||◌, List, [], ◌∷◌, length, get_or, take, refl, sym, ap, ◌∙◌, arith}
+use Rattle.std.proofs.lemmas.List.{get_or-take}
+use Rattle.std.specs.List.{list_any}
+use native.Mathlib.Decide.{dec_lt}
 use borrow.Author.Tests.{eq-eqb, ne_eqb, lt-ltb, le-ltb}
-use lib.Dec.{eqb}
-use lib.ListN.{get_or}
+use lib.Dec.{eqb, ltb}
+use lib.Seq.{length-take-le}
 use Rattle.nodes.specs.Child.{any}
-use Rattle.trie.specs.Frames.{top_down, one_above, out_of_range, still_open}
+use Rattle.trie.specs.Frames.{top_down, out_of_range, still_open}
 
-top_first : (xs : List ℕ) (d : ℕ) → 0 < d → top_down xs d ≡ get_or xs (d - 1) 0 ∷ top_down xs (d - 1)
+-- ---- the first d of an array
+
+top_front : (xs : List ℕ) (n d : ℕ) → d ≤ n → top_down (take n xs) d ≡ top_down xs d
 unfolding top_down
-top_first xs zero h = absurd (lt_irrefl 0 h)
-top_first xs (suc d) h = let e : suc d - 1 ≡ d = omega arith in rw e
+top_front xs n zero h = refl
+top_front xs n (suc d) h =
+    (λ i. get_or-take n xs d 0 (omega arith) i ∷ top_front xs n d (omega arith) i)
 
--- ---- whether one of n passes a test: d are left to look at
+still_front : (left : List ℕ) (n d : ℕ) → d ≤ n → still_open (take n left) d ≡ still_open left d
+unfolding still_open
+still_front left n zero h = refl
+still_front left n (suc d) h =
+    λ i. cond (eqb (get_or-take n left d 0 (omega arith) i) 0) (still_front left n d (omega arith) i) (suc d)
 
-pub record Looking (p : ℕ → Bool) (xs : List ℕ) (n d : ℕ) : Type 0 where
-  pub few : d ≤ n
-  pub same : any p (top_down xs n) ≡ any p (top_down xs d)
+pub front_top : (xs : List ℕ) (d : ℕ) → d ≤ length xs → top_down (take d xs) (length (take d xs)) ≡ top_down xs d
+front_top xs d h = ap (top_down (take d xs)) (length-take-le d xs h) ∙ top_front xs d d (omega arith)
 
-module _ {p : ℕ → Bool} {xs : List ℕ} {n : ℕ} where
-  pub looks : Looking p xs n n
-  looks = record { few = omega arith; same = refl }
+pub front_open : (left : List ℕ) (d : ℕ) → d ≤ length left → still_open (take d left) (length (take d left)) ≡ still_open left d
+front_open left d h = ap (still_open (take d left)) (length-take-le d left h) ∙ still_front left d d (omega arith)
 
-  module _ {d : ℕ} (l : Looking p xs n d) where
-    module _ (h : 0 < d) where
-      first : any p (top_down xs d) ≡ p (get_or xs (d - 1) 0) || any p (top_down xs (d - 1))
-      unfolding any
-      first = ap (any p) (top_first xs d h)
+-- ---- whether one passes a test
 
-      pub seen : p (get_or xs (d - 1) 0) ≡ true → true ≡ any p (top_down xs n)
-      seen e = sym (l.same ∙ first ∙ rw e)
+or_swap : (a b c : Bool) → a || (b || c) ≡ b || (a || c)
+or_swap true true c = refl
+or_swap true false c = refl
+or_swap false true c = refl
+or_swap false false c = refl
 
-      pub looks_on : p (get_or xs (d - 1) 0) ≡ false → Looking p xs n (d - 1)
-      looks_on e = record { few = omega (arith, l.few); same = l.same ∙ first ∙ rw e }
+module _ (p : ℕ → Bool) where
+  any_behind : (x : ℕ) (xs : List ℕ) (d : ℕ) → any p (top_down (x ∷ xs) (suc d)) ≡ p x || any p (top_down xs d)
+  unfolding any top_down
+  any_behind x xs zero = refl
+  any_behind x xs (suc d) =
+      ap (λ (b : Bool). p (get_or xs d 0) || b) (any_behind x xs d) ∙ or_swap (p (get_or xs d 0)) (p x) (any p (top_down xs d))
 
-    pub not_seen : d ≤ 0 → false ≡ any p (top_down xs n)
-    unfolding any top_down
-    not_seen h = let e : d ≡ 0 = omega arith in sym (l.same ∙ ap (λ (m : ℕ). any p (top_down xs m)) e)
+  pub any_top : (xs : List ℕ) → any p (top_down xs (length xs)) ≡ list_any p xs
+  unfolding any top_down
+  any_top [] = refl
+  any_top (x ∷ xs) = any_behind x xs (length xs) ∙ ap (λ (b : Bool). p x || b) (any_top xs)
 
-pub ruleset looking = (looks, seen, looks_on, not_seen)
+  pub any_front : (xs : List ℕ) (d : ℕ) → d ≤ length xs → list_any p (take d xs) ≡ any p (top_down xs d)
+  any_front xs d h = sym (any_top (take d xs)) ∙ ap (any p) (front_top xs d h)
 
--- ---- how many of n are still open: d are left to look at
+-- ---- how many are left, by where the last is that has a child left
 
-pub record Closing (left : List ℕ) (n d : ℕ) : Type 0 where
-  pub few : d ≤ n
-  pub same : still_open left n ≡ still_open left d
+closed_on : (left : List ℕ) (d : ℕ) → get_or left d 0 ≡ 0 → still_open left (suc d) ≡ still_open left d
+unfolding still_open
+closed_on left d e = ap (λ (t : Bool). cond t (still_open left d) (suc d)) (eq-eqb (get_or left d 0) 0 e)
 
-module _ {left : List ℕ} {n : ℕ} where
-  pub closes : Closing left n n
-  closes = record { few = omega arith; same = refl }
+still_down : (left : List ℕ) (i d : ℕ) → i ≤ d → ((k : ℕ) → i ≤ k → k < d → get_or left k 0 ≡ 0) → still_open left d ≡ still_open left i
+still_down left i zero h none = let e : i ≡ 0 = omega arith in ap (still_open left) (sym e)
+still_down left i (suc d) h none =
+    elim (dec_lt d i) [
+      | yes l ↦ let e : suc d ≡ i = omega arith in ap (still_open left) e
+      | no l ↦ closed_on left d (none d (omega arith) (omega arith)) ∙ still_down left i d (omega arith) (λ k a b. none k a (omega arith))
+    ]
 
-  module _ {d : ℕ} (l : Closing left n d) where
-    module _ (h : 0 < d) where
-      on_top_lem : still_open left d ≡ cond (eqb (get_or left (d - 1) 0) 0) (still_open left (d - 1)) d
-      unfolding still_open
-      on_top_lem = by d h
-        where
-          by : (m : ℕ) → 0 < m → still_open left m ≡ cond (eqb (get_or left (m - 1) 0) 0) (still_open left (m - 1)) m
-          by zero h = absurd (lt_irrefl 0 h)
-          by (suc m) h = let e : suc m - 1 ≡ m = omega arith in rw e
+pub open_none : (left : List ℕ) → ((k : ℕ) → k < length left → get_or left k 0 ≡ 0) → still_open left (length left) ≡ 0
+unfolding still_open
+open_none left none = still_down left 0 (length left) (omega arith) (λ k a b. none k b)
 
-      pub stays : (get_or left (d - 1) 0 ≡ 0 → ⊥) → d ≡ still_open left n
-      stays e = sym (l.same ∙ on_top_lem ∙ rw (ne_eqb (get_or left (d - 1) 0) 0 e))
-
-      pub closes_on : get_or left (d - 1) 0 ≡ 0 → Closing left n (d - 1)
-      closes_on e = record { few = omega (arith, l.few); same = l.same ∙ on_top_lem ∙ rw (eq-eqb (get_or left (d - 1) 0) 0 e) }
-
-    pub all_closed : d ≤ 0 → 0 ≡ still_open left n
-    unfolding still_open
-    all_closed h = let e : d ≡ 0 = omega arith in sym (l.same ∙ ap (still_open left) e)
-
-pub ruleset closing = (closes, stays, closes_on, all_closed)
+pub open_to : (left : List ℕ) (i : ℕ) → i < length left → get_or left i 0 ≢ 0 → ((k : ℕ) → i + 1 ≤ k → k < length left → get_or left k 0 ≡ 0)
+    → still_open left (length left) ≡ i + 1
+unfolding still_open
+open_to left i h some none =
+    still_down left (i + 1) (length left) (omega arith) none
+    ∙ ap (still_open left) (add-one i)
+    ∙ ap (λ (t : Bool). cond t (still_open left i) (suc i)) (ne_eqb (get_or left i 0) 0 some)
+    ∙ sym (add-one i)
 
 -- ---- whether a state is out of range
 
@@ -83,13 +87,11 @@ module _ (places lengths : List ℕ) (d bytes room : ℕ) where
   unfolding out_of_range
   too_many h = rw (lt-ltb 256 d h)
 
-  module _ (h : d ≤ 256) {r : Bool} (e : r ≡ one_above bytes (top_down places d)) where
-    pub place_out : r ≡ true → true ≡ out_of_range 256 places lengths d bytes room
+  module _ (h : d ≤ 256) (p : d ≤ length places) {r : Bool} (e : r ≡ list_any (λ y. ltb bytes y) (take d places)) where
+    pub place_out : r ≡ true → r ≡ out_of_range 256 places lengths d bytes room
     unfolding out_of_range
-    place_out f = rw (le-ltb 256 d h, sym e ∙ f)
+    place_out f = rw (le-ltb 256 d h, sym (any_front (λ y. ltb bytes y) places d p), sym e, f)
 
-    pub name_out : r ≡ false → {q : Bool} → q ≡ one_above room (top_down lengths d) → q ≡ out_of_range 256 places lengths d bytes room
+    pub name_out : r ≡ false → d ≤ length lengths → {q : Bool} → q ≡ list_any (λ y. ltb room y) (take d lengths) → q ≡ out_of_range 256 places lengths d bytes room
     unfolding out_of_range
-    name_out f g = rw (le-ltb 256 d h, sym e ∙ f) g
-
-pub ruleset ranging = (too_many, place_out, name_out)
+    name_out f l g = rw (le-ltb 256 d h, sym (any_front (λ y. ltb bytes y) places d p), sym e, f) (g ∙ any_front (λ y. ltb room y) lengths d l)

@@ -15,11 +15,10 @@ use Rattle.trie.specs.Call.{at_start, closed, on_top, rooted, child_of, child_na
 use Rattle.nodes.specs.ExportsTrie.{node_at}
 use Rattle.trie.specs.Frames.{still_open}
 use Rattle.trie.specs.declared.TrieWalk.{TrieWalk}
-use Rattle.nodes.specs.declared.child.Child.TheVariants.{Found}
 use Rattle.nodes.specs.declared.node.Edge.{Edge}
 use Rattle.nodes.specs.declared.node.Node.{Node}
-use Rattle.nodes.specs.declared.node.NodeRead.TheVariants as node
-use Rattle.nodes.specs.declared.node.Terminal.{Terminal}
+use Rattle.nodes.specs.declared.export.Export.{Export}
+use Rattle.std.specs.Prelude.{Option, Some, Ok}
 
 -- ---- what the types hold
 
@@ -86,7 +85,7 @@ pub record Back (bytes room limit : ℕ) (p : Outcome) : Type 0 where
 
 module _ (s : List ℕ) (room : ℕ) (lent : TypedLent s room) where
   -- a node that is reached, with the length of its name in the buffer
-  record Held (len : ℕ) (t : Terminal) (w : TrieWalk) (b : List ℕ) : Type 0 where
+  record Held (len : ℕ) (t : Option Export) (w : TrieWalk) (b : List ℕ) : Type 0 where
     typed : Typed w
     long : length b ≡ room
     name : len ≤ room
@@ -98,7 +97,7 @@ module _ (s : List ℕ) (room : ℕ) (lent : TypedLent s room) where
   IfHeld (reached len t v c) = Held len t v c
 
   module _ (w : TrieWalk) (b : List ℕ) (t : Typed w) (l : length b ≡ room) where
-    held_child : (e : Edge) (n : Node) → child_of s (length b) (closed w) ≡ Found e n → still_open w.left w.depth < 256
+    held_child : (e : Edge) (n : Node) → child_of s (length b) (closed w) ≡ Ok (e, n) → still_open w.left w.depth < 256
         → Held (child_name (closed w) e) n.terminal (child_opened (closed w) e n) (edge_put s (closed w) e b)
     held_child e n f m =
         let d : ℕ = still_open w.left w.depth in
@@ -120,7 +119,7 @@ module _ (s : List ℕ) (room : ℕ) (lent : TypedLent s room) where
           terminal = j.terminal;
         }
 
-    held_root : (n : Node) → node_at s 0 ≡ node.Found n → Held 0 n.terminal (rooted w n) b
+    held_root : (n : Node) → node_at s 0 ≡ Some n → Held 0 n.terminal (rooted w n) b
     held_root n f =
         let j = node_in s 0 f in
         record {

@@ -2,6 +2,7 @@
 use mathlib.Core.Path.{◌≡◌, refl, ap}
 use Rattle.refusal.proofs.Numbered.{refusal_of, refusal_back}
 use Rattle.refusal.proofs.Unique.{one_each}
+use Rattle.numbers.specs.Strings.{part_from}
 use Rattle.trie.specs.Call.{Answer, export, more, end, refused, Reply}
 use Rattle.nodes.specs.Exported.{Target, regular, reexport, stub_and_resolver, Exported, target_told}
 use Rattle.trie.specs.Told.{answer_told, told}
@@ -14,7 +15,7 @@ use Rattle.nodes.specs.declared.export.ExportData.TheVariants.{Regular, Reexport
 
 abbrev target_of : Target → ExportData
 target_of (regular address) = Regular address
-target_of (reexport ordinal place len) = Reexport (record { ordinal = ordinal; place = place; length = len })
+target_of (reexport ordinal place len) = Reexport (record { ordinal = ordinal; name = part_from place len })
 target_of (stub_and_resolver stub resolver) = StubAndResolver stub resolver
 
 abbrev export_of : Exported → Export

@@ -1,4 +1,4 @@
--- One turn of the walk's loop, by the way that it goes: for `search`. Assumes nothing.
+-- One turn of the walk's loop, by the way that it goes. Assumes nothing.
 use Prim.Native.Nat.{ℕ, zero, suc, ◌+◌, ◌-◌, ◌≤◌, ◌<◌}
 use mathlib.Core.Path.{◌≡◌, refl, sym, ap, ◌∙◌}
 use mathlib.Core.Bool.{Bool, true, false, cond}
@@ -7,11 +7,12 @@ use native.Mathlib.Nat.{pos_of_ne-zero}
 use native.Mathlib.Omega.{arith}
 use borrow.Author.Tests.{eq-eqb, ne_eqb, eqb-false, le-leb, lt-leb}
 use lib.Dec.{eqb}
-use lib.ListN.{length, get_or}
+use lib.ListN.{length, get_or, set, take, length-set}
 use Rattle.numbers.specs.Parts.{part_at}
 use Rattle.refusal.specs.declared.Refusal.{Refusal}
 use Rattle.refusal.specs.declared.Refusal.TheVariants.{TooManyOpenNodes}
 use Rattle.trie.proofs.Children.{child_read}
+use Rattle.trie.proofs.Searches.{front_top, front_open}
 use Rattle.trie.specs.Call.{at_depth, marked, put, child_name, child_opened, more, end, seen, replied, visited, visit_child, child_of, onward}
 use Rattle.trie.specs.NextChild.{child_at}
 use Rattle.trie.specs.Frames.{top_down, still_open}
@@ -19,12 +20,11 @@ use Rattle.trie.specs.Told.{told}
 use Rattle.trie.specs.declared.TrieAnswer.TheVariants as answer
 use Rattle.trie.specs.declared.TrieStep.{TrieStep}
 use Rattle.trie.specs.declared.TrieWalk.{TrieWalk}
-use Rattle.nodes.specs.declared.child.Child.{Child}
-use Rattle.nodes.specs.declared.child.Child.TheVariants.{Found, Refused}
 use Rattle.nodes.specs.declared.export.Export.{Export}
 use Rattle.nodes.specs.declared.node.Edge.{Edge}
 use Rattle.nodes.specs.declared.node.Node.{Node}
-use Rattle.nodes.specs.declared.node.Terminal.TheVariants as terminal
+use Rattle.nodes.specs.Child.{Child}
+use Rattle.std.specs.Prelude.{Some, None, Ok, Err}
 
 -- ---- what is on top when all is closed that has no child left
 
@@ -54,14 +54,20 @@ has_child left (suc d) n = has_child_by left (still_open left d) d (eqb (get_or 
 pub record Going (s : List ℕ) (given : TrieWalk) (limit done : ℕ) (w₀ : TrieWalk) (b₀ : List ℕ) (w : TrieWalk) (b : List ℕ) (visits : ℕ) : Type 0 where
   pub few : visits ≤ limit
   pub fits : w.depth ≤ 256
+  pub offsets : length w.offsets ≡ 256
+  pub left : length w.left ≡ 256
   pub long : length b ≡ length b₀
   pub same : onward 256 s given (limit - done) done w₀ b₀ ≡ onward 256 s given (limit - visits) visits w b
 
 module _ {s : List ℕ} {given : TrieWalk} {limit done : ℕ} {w₀ : TrieWalk} {b₀ : List ℕ} where
-  pub begins : w₀.depth ≤ 256 → done ≤ limit → Going s given limit done w₀ b₀ w₀ b₀ done
-  begins h l = record { few = l; fits = h; long = refl; same = refl }
+  pub begins : w₀.depth ≤ 256 → length w₀.offsets ≡ 256 → length w₀.left ≡ 256 → done ≤ limit → Going s given limit done w₀ b₀ w₀ b₀ done
+  begins h o f l = record { few = l; fits = h; offsets = o; left = f; long = refl; same = refl }
 
-  module _ {w : TrieWalk} {b : List ℕ} {visits : ℕ} (g : Going s given limit done w₀ b₀ w b visits) {d : ℕ} (e : d ≡ still_open w.left w.depth) where
+  module _ {w : TrieWalk} {b : List ℕ} {visits : ℕ} (g : Going s given limit done w₀ b₀ w b visits) {d : ℕ}
+      (counted : d ≡ still_open (take w.depth w.left) (length (take w.depth w.left))) where
+    e : d ≡ still_open w.left w.depth
+    e = counted ∙ front_open w.left w.depth (omega (arith, g.fits, g.left))
+
     pub child_left : (d ≡ 0 → ⊥) → 0 < get_or w.left (d - 1) 0
     child_left z = rw e (has_child w.left w.depth (λ q. z (e ∙ q)))
 
@@ -97,7 +103,11 @@ module _ {s : List ℕ} {given : TrieWalk} {limit done : ℕ} {w₀ : TrieWalk} 
           sym (ap seen (g.same ∙ ap (λ (m : ℕ). onward 256 s given m visits w b) k ∙ last) ∙ rw (ne_eqb d 0 z) (λ i. (told (sym f i), b)))
 
       -- a child is read
-      module _ (h : visits < limit) {c : Child} (q : c ≡ child_at s (length b) (top_down w.offsets d) (get_or w.lengths (d - 1) 0) (get_or w.places (d - 1) 0)) where
+      module _ (h : visits < limit) {c : Child}
+          (read : c ≡ child_at s (length b) (top_down (take d w.offsets) (length (take d w.offsets))) (get_or w.lengths (d - 1) 0) (get_or w.places (d - 1) 0)) where
+        q : c ≡ child_at s (length b) (top_down w.offsets d) (get_or w.lengths (d - 1) 0) (get_or w.places (d - 1) 0)
+        q = read ∙ ap (λ (xs : List ℕ). child_at s (length b) xs (get_or w.lengths (d - 1) 0) (get_or w.places (d - 1) 0)) (front_top w.offsets d (omega (arith, e, still_at_most w.left w.depth, g.fits, g.offsets)))
+
         on : {x : Child} → c ≡ x → onward 256 s given (limit - done) done w₀ b₀ ≡ visit_child 256 s (onward 256 s given (limit - (visits + 1))) given visits (at_depth d w) b x
         on f =
             let k : limit - visits ≡ suc (limit - (visits + 1)) = omega arith in
@@ -106,13 +116,13 @@ module _ {s : List ℕ} {given : TrieWalk} {limit done : ℕ} {w₀ : TrieWalk} 
             ∙ next (limit - (visits + 1))
             ∙ rw (ne_eqb d 0 z) (ap (visit_child 256 s (onward 256 s given (limit - (visits + 1))) given visits (at_depth d w) b) (sym q ∙ f))
 
-        pub refuses : {x : Refusal} → c ≡ Refused x → {r : TrieStep} → r ≡ record { answer = answer.Refused x; walk = marked given; visits = visits }
+        pub refuses : {x : Refusal} → c ≡ Err x → {r : TrieStep} → r ≡ record { answer = answer.Refused x; walk = marked given; visits = visits }
             → (told r, b) ≡ seen (onward 256 s given (limit - done) done w₀ b₀)
         unfolding visit_child
         refuses f p = sym (ap seen (on f) ∙ (λ i. (told (sym p i), b)))
 
-        module _ {x : Edge} {n : Node} (f : c ≡ Found x n) where
-          pub name_fits : get_or w.lengths (d - 1) 0 + x.length ≤ length b
+        module _ {x : Edge} {n : Node} (f : c ≡ Ok (x, n)) where
+          pub name_fits : get_or w.lengths (d - 1) 0 + x.name.length ≤ length b
           name_fits = (child_read s (length b) (top_down w.offsets d) (get_or w.lengths (d - 1) 0) (get_or w.places (d - 1) 0) q f).fits
 
           pub full : 256 ≤ d → {r : TrieStep} → r ≡ record { answer = answer.Refused TooManyOpenNodes; walk = marked given; visits = visits }
@@ -121,7 +131,7 @@ module _ {s : List ℕ} {given : TrieWalk} {limit done : ℕ} {w₀ : TrieWalk} 
           full l p = sym (ap seen (on f) ∙ rw (le-leb 256 d l) (λ i. (told (sym p i), b)))
 
           -- its edge is put into the buffer
-          module _ (l : d < 256) (o₀ : ℕ × ℕ) {o : ℕ × ℕ} {bytes c₀ : List ℕ} (u : (o, bytes) ≡ part_at o₀ s x.place x.length) (v : c₀ ≡ put bytes b (get_or w.lengths (d - 1) 0)) where
+          module _ (l : d < 256) (o₀ : ℕ × ℕ) {o : ℕ × ℕ} {bytes c₀ : List ℕ} (u : (o, bytes) ≡ part_at o₀ s x.name.place x.name.length) (v : c₀ ≡ put bytes b (get_or w.lengths (d - 1) 0)) where
             reached : onward 256 s given (limit - done) done w₀ b₀ ≡ visited (onward 256 s given (limit - (visits + 1))) (child_name (at_depth d w) x) (visits + 1) (child_opened (at_depth d w) x n) c₀ n.terminal
             unfolding visit_child
             reached =
@@ -130,19 +140,19 @@ module _ {s : List ℕ} {given : TrieWalk} {limit done : ℕ} {w₀ : TrieWalk} 
                 (ap (λ (a : List ℕ). visited (onward 256 s given (limit - (visits + 1))) (child_name (at_depth d w) x) (visits + 1) (child_opened (at_depth d w) x n) a n.terminal)
                 (sym (v ∙ ap (λ (a : List ℕ). put a b (get_or w.lengths (d - 1) 0)) (ap (λ (a : (ℕ × ℕ) × List ℕ). a.1) u))))
 
-            pub exports : {y : Export} → n.terminal ≡ terminal.Export y → {r : TrieStep} → r ≡ record { answer = answer.Export (child_name (at_depth d w) x) y; walk = child_opened (at_depth d w) x n; visits = visits + 1 }
+            pub exports : {y : Export} → n.terminal ≡ Some y → {r : TrieStep} → r ≡ record { answer = answer.Export (child_name (at_depth d w) x) y; walk = child_opened (at_depth d w) x n; visits = visits + 1 }
                 → (told r, c₀) ≡ seen (onward 256 s given (limit - done) done w₀ b₀)
             unfolding visited
             exports y p = sym (ap seen (reached ∙ ap (visited (onward 256 s given (limit - (visits + 1))) (child_name (at_depth d w) x) (visits + 1) (child_opened (at_depth d w) x n) c₀) y) ∙ (λ i. (told (sym p i), c₀)))
 
-            pub goes_on : length c₀ ≡ length b → n.terminal ≡ terminal.NoExport → Going s given limit done w₀ b₀ (child_opened (at_depth d w) x n) c₀ (visits + 1)
+            pub goes_on : length c₀ ≡ length b → n.terminal ≡ None → Going s given limit done w₀ b₀ (child_opened (at_depth d w) x n) c₀ (visits + 1)
             unfolding visited
             goes_on m y =
                 record {
                   few = omega arith;
                   fits = omega arith;
+                  offsets = length-set w.offsets d x.offset ∙ g.offsets;
+                  left = length-set (set w.left (d - 1) (get_or w.left (d - 1) 0 - 1)) d n.children ∙ length-set w.left (d - 1) (get_or w.left (d - 1) 0 - 1) ∙ g.left;
                   long = m ∙ g.long;
                   same = reached ∙ ap (visited (onward 256 s given (limit - (visits + 1))) (child_name (at_depth d w) x) (visits + 1) (child_opened (at_depth d w) x n) c₀) y;
                 }
-
-pub ruleset visiting = (begins, child_left, ends, pauses, refuses, name_fits, full, exports, goes_on)

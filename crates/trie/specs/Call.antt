@@ -1,23 +1,19 @@
 -- One call of the walk: what it answers, the state that it hands back, how many nodes it visited, and what it leaves in the name buffer;
 -- for any state. The first `depth` elements of the state's arrays are those of the open nodes, the one on top last. A walk that has no
 -- node open and has not ended has not begun. `most` nodes may be open at once.
-use Rattle.std.specs.Prelude.{ℕ, zero, suc, ◌+◌, ◌-◌, true, false, cond, List, ◌++◌, leb, eqb, length, get_or, set, take, drop, replicate}
+use Rattle.std.specs.Prelude.{ℕ, zero, suc, ◌+◌, ◌-◌, true, false, cond, List, ◌++◌, leb, eqb, length, get_or, set, take, drop, replicate, Option, Some, None, Ok, Err}
 use Rattle.nodes.specs.Exported.{Exported, export_told}
 use Rattle.nodes.specs.ExportsTrie.{node_at}
-use Rattle.nodes.specs.declared.child.Child.{Child}
-use Rattle.nodes.specs.declared.child.Child.TheVariants.{Found, Refused}
 use Rattle.nodes.specs.declared.node.Edge.{Edge}
 use Rattle.nodes.specs.declared.node.Node.{Node}
-use Rattle.nodes.specs.declared.node.NodeRead.{NodeRead}
-use Rattle.nodes.specs.declared.node.NodeRead.TheVariants as node
-use Rattle.nodes.specs.declared.node.Terminal.{Terminal}
-use Rattle.nodes.specs.declared.node.Terminal.TheVariants as terminal
 use Rattle.numbers.specs.Parts.{part_of}
 use Rattle.refusal.specs.Numbers.{number_of}
 use Rattle.refusal.specs.declared.Refusal.TheVariants.{FaultyNode, TooManyOpenNodes, StateOutOfRange}
 use Rattle.trie.specs.Frames.{top_down, out_of_range, still_open}
 use Rattle.trie.specs.NextChild.{child_at}
 use Rattle.trie.specs.declared.TrieWalk.{TrieWalk}
+use Rattle.nodes.specs.Child.{Child}
+use Rattle.nodes.specs.declared.export.Export.{Export}
 
 -- ---- the state
 
@@ -110,14 +106,14 @@ child_of s room w =
 
 -- the length of its name, the walk when it is opened, and the buffer with its edge
 abbrev pub child_name : TrieWalk → Edge → ℕ
-child_name w e = on_top w w.lengths + e.length
+child_name w e = on_top w w.lengths + e.name.length
 
 abbrev pub child_opened : TrieWalk → Edge → Node → TrieWalk
 child_opened w e n =
     opened w.depth n.place e.offset n.children (child_name w e) (passed e.next w)
 
 abbrev pub edge_put : List ℕ → TrieWalk → Edge → (buffer : List ℕ) → List ℕ
-edge_put s w e b = put (part_of s e.place e.length) b (on_top w w.lengths)
+edge_put s w e b = put (part_of s e.name.place e.name.length) b (on_top w w.lengths)
 
 -- ---- what a call comes to
 
@@ -155,9 +151,9 @@ refusing number given w n b =
 -- ---- a call
 
 -- a node is visited, the nth, whose name has this length: an export is answered, from any other node the call goes on
-unfoldable pub visited : (on : (n : ℕ) → TrieWalk → List ℕ → Outcome) (len n : ℕ) → TrieWalk → List ℕ → Terminal → Outcome
-visited on len n w b terminal.NoExport = on n w b
-visited on len n w b (terminal.Export x) = replied (export len (export_told x)) w n b
+unfoldable pub visited : (on : (n : ℕ) → TrieWalk → List ℕ → Outcome) (len n : ℕ) → TrieWalk → List ℕ → Option Export → Outcome
+visited on len n w b None = on n w b
+visited on len n w b (Some x) = replied (export len (export_told x)) w n b
 
 module _ (most : ℕ) (s : List ℕ) where
   -- a node is opened above d others, where one more may be; n nodes were visited before
@@ -166,8 +162,8 @@ module _ (most : ℕ) (s : List ℕ) where
 
   -- the next child is visited
   unfoldable pub visit_child : (on : (n : ℕ) → TrieWalk → List ℕ → Outcome) (given : TrieWalk) (n : ℕ) → TrieWalk → List ℕ → Child → Outcome
-  visit_child on given n w b (Refused e) = refusing (number_of e) given w n b
-  visit_child on given n w b (Found e node) =
+  visit_child on given n w b (Err e) = refusing (number_of e) given w n b
+  visit_child on given n w b (Ok (e, node)) =
       opening w.depth given n w b
       (visited on (child_name w e) (n + 1) (child_opened w e node) (edge_put s w e b) node.terminal)
 
@@ -181,9 +177,9 @@ module _ (most : ℕ) (s : List ℕ) where
       (visit_child (onward given k) given n (closed w) b (child_of s (length b) (closed w)))
 
   -- the root, and k nodes more may be visited
-  unfoldable pub visit_root : (given : TrieWalk) (k : ℕ) → List ℕ → NodeRead → Outcome
-  visit_root given k b node.Fault = refusing (number_of FaultyNode) given given 0 b
-  visit_root given k b (node.Found n) =
+  unfoldable pub visit_root : (given : TrieWalk) (k : ℕ) → List ℕ → Option Node → Outcome
+  visit_root given k b None = refusing (number_of FaultyNode) given given 0 b
+  visit_root given k b (Some n) =
       opening 0 given 0 given b
       (visited (onward given k) 0 1 (rooted given n) b n.terminal)
 

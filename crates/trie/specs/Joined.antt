@@ -1,6 +1,5 @@
 -- Calls with any limits, one after another: what they say together; and what a listing says to one who makes them.
-use Rattle.std.specs.Prelude.{ℕ, ◌+◌, List, [], ◌∷◌, take}
-use Rattle.std.proofs.Math.Option.{Option, none, some}
+use Rattle.std.specs.Prelude.{ℕ, ◌+◌, List, [], ◌∷◌, take, Option, Some, None}
 use Rattle.nodes.specs.Listing.{Visit}
 use Rattle.nodes.specs.Symbols.{Symbol, symbol, Ending, at_end, at_refusal, exports_in, visits_in, ending_of}
 use Rattle.runs.specs.Runs.{Run}
@@ -20,12 +19,12 @@ joined exports visits ending = record { exports = exports; visits = visits; endi
 abbrev pub join : (n : ℕ) (buffer : List ℕ) → (rest : Joined) → Answer → Joined
 join n b rest (export len x) = joined (symbol (take len b) x ∷ rest.exports) (n + rest.visits) rest.ending
 join n b rest more = joined rest.exports (n + rest.visits) rest.ending
-join n b rest end = joined [] n (some at_end)
-join n b rest (refused number) = joined [] n (some (at_refusal number))
+join n b rest end = joined [] n (Some at_end)
+join n b rest (refused number) = joined [] n (Some (at_refusal number))
 
 -- calls to the first end or refusal; each is given the state and the buffer as the last one left them. `most` nodes may be open at once
 unfoldable pub calls : (most : ℕ) → List ℕ → TrieWalk → (buffer limits : List ℕ) → Joined
-calls most s w b [] = joined [] 0 none
+calls most s w b [] = joined [] 0 None
 calls most s w b (k ∷ ks) =
     let o = call most s k w b in
     let rest = calls most s o.reply.walk o.buffer ks in
@@ -33,4 +32,4 @@ calls most s w b (k ∷ ks) =
 
 -- what a listing says
 abbrev pub joined_in : Run Visit → Joined
-joined_in l = joined (exports_in l) (visits_in l) (some (ending_of l))
+joined_in l = joined (exports_in l) (visits_in l) (Some (ending_of l))

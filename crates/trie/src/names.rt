@@ -2,20 +2,16 @@
 ghost use Rattle.std.specs.Prelude.{◌≡◌};
 ghost use Rattle.trie.specs.Call.{put};
 
-// Bytes are put into the buffer at a place; none where they do not fit. (An edge does: 18 is tested
-// before.)
+// Bytes are put into the buffer at a place; none where they do not fit. (An edge's do:
+// `read_child` has refused a name that is too long.)
+#[tactic(auto, unfolding(crate::specs::Call::put))]
 pub(crate) fn put(bytes: &[u8], name: &mut [u8], at: usize)
     ensures { name.new ≡ put bytes.now name.old at }
 {
-    if name.len() < at {
+    let Some(end) = at.checked_add(bytes.len()) else {
         return;
-    }
-    if name.len() - at < bytes.len() {
-        return;
-    }
-    let mut i: usize = 0;
-    while i < bytes.len() {
-        name[at + i] = bytes[i];
-        i += 1;
+    };
+    if end <= name.len() {
+        name[at..end].copy_from_slice(bytes);
     }
 }

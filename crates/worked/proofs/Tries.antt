@@ -3,8 +3,8 @@ use Prim.Native.Nat.{ℕ}
 use mathlib.Core.Path.{◌≡◌, refl}
 use mathlib.Core.List.{List, [], ◌∷◌, ◌++◌, map}
 use lib.ListN.{replicate}
-use Rattle.nodes.specs.Child.{then_edge, then_node, any, entered_at}
-use Rattle.nodes.specs.ExportsTrie.{regular_at, stub_at, reexport_at, export_at, then_export, counted_at, node_at, edge_at}
+use Rattle.nodes.specs.Child.{any, entered_at}
+use Rattle.nodes.specs.ExportsTrie.{regular_at, stub_at, reexport_at, export_at, then_read, counted_at, node_at, edge_at}
 use Rattle.nodes.specs.Listing.{Visit, Choice, entered, child_by, children_by, subtree_by, listing_by, listing}
 use Rattle.nodes.specs.Symbols.{exports_in, visits_in, ending_of}
 use Rattle.numbers.specs.Digits.{from_digits}
@@ -12,7 +12,7 @@ use Rattle.numbers.specs.Leb128.{uleb_at}
 use Rattle.numbers.specs.Parts.{part_of}
 use Rattle.numbers.specs.Spans.{span_to}
 use Rattle.numbers.specs.Strings.{string_at}
-use Rattle.numbers.specs.Then.{then_unsigned, then_text}
+use Rattle.numbers.specs.Then.{then}
 use Rattle.runs.specs.Runs.{Run, stops, fails, ◌then◌}
 use Rattle.trie.specs.Call.{at_start, at_depth, marked, put, end, refused, replied, visited, visit_child, onward, visit_root, go_on, call}
 use Rattle.trie.specs.Frames.{top_down, out_of_range, still_open}
@@ -22,12 +22,12 @@ use Rattle.worked.specs.Tries.{Sample, loop, cut_edge, cut_node, row, samples, r
 
 -- each lists it
 tries_list : map (λ (x : Sample). joined_in (listing x.bytes x.room 256)) (samples ++ rows) ≡ map (λ (x : Sample). x.says) (samples ++ rows)
-unfolding row uleb_at string_at span_to from_digits part_of then_unsigned then_text regular_at stub_at reexport_at export_at then_export counted_at node_at edge_at then_edge then_node any entered_at ◌then◌ entered child_by children_by subtree_by listing_by exports_in visits_in ending_of
+unfolding row uleb_at string_at span_to from_digits part_of then regular_at stub_at reexport_at export_at then_read counted_at node_at edge_at any entered_at ◌then◌ entered child_by children_by subtree_by listing_by exports_in visits_in ending_of
 tries_list = refl
 
 -- and calls say it, with these limits as with any (crates/trie/proofs/Joined.antt)
 tries_call : map (λ (x : Sample). calls 256 x.bytes (at_start 256) (replicate x.room 0) (1 ∷ 0 ∷ 1 ∷ 300 ∷ 7 ∷ 300 ∷ [])) (samples ++ rows) ≡ map (λ (x : Sample). x.says) (samples ++ rows)
-unfolding row uleb_at string_at span_to from_digits part_of then_unsigned then_text regular_at stub_at reexport_at export_at then_export counted_at node_at edge_at then_edge then_node any entered_at child_at top_down out_of_range still_open put visited visit_child onward visit_root go_on call calls
+unfolding row uleb_at string_at span_to from_digits part_of then regular_at stub_at reexport_at export_at then_read counted_at node_at edge_at any entered_at child_at top_down out_of_range still_open put visited visit_child onward visit_root go_on call calls
 tries_call = refl
 
 -- ---- states that only a host can make up
@@ -46,7 +46,7 @@ ended_stays = refl
 
 -- of two nodes, where none may be, and where one may be
 few_open : map (λ (most : ℕ). ending_of (listing loop 9 most)) (0 ∷ 1 ∷ 2 ∷ []) ≡ map (λ (number : ℕ). ending_of (fails number)) (17 ∷ 17 ∷ 16 ∷ [])
-unfolding uleb_at string_at span_to from_digits part_of then_unsigned then_text counted_at node_at edge_at then_node any entered_at ◌then◌ entered child_by children_by subtree_by listing_by ending_of
+unfolding uleb_at string_at span_to from_digits part_of then counted_at node_at edge_at then_read any entered_at ◌then◌ entered child_by children_by subtree_by listing_by ending_of
 few_open = refl
 
 -- ---- a choice at each edge
@@ -65,5 +65,5 @@ by choice s = listing_by s choice (λ v. v) 256
 choices_tell : map (λ (l : Run Visit). ending_of l)
     (by (stopping 29) cut_edge ∷ by (stopping 29) cut_node ∷ by passing cut_edge ∷ by passing cut_node ∷ listing cut_edge 9 256 ∷ listing cut_node 9 256 ∷ [])
     ≡ map (λ (l : Run Visit). ending_of l) (fails 15 ∷ fails 29 ∷ fails 15 ∷ stops ∷ fails 15 ∷ fails 15 ∷ [])
-unfolding uleb_at string_at span_to from_digits part_of then_unsigned then_text counted_at node_at edge_at then_node any entered_at ◌then◌ entered child_by children_by subtree_by listing_by ending_of
+unfolding uleb_at string_at span_to from_digits part_of then counted_at node_at edge_at then_read any entered_at ◌then◌ entered child_by children_by subtree_by listing_by ending_of
 choices_tell = refl

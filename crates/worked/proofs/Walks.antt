@@ -13,7 +13,7 @@ use Rattle.worked.specs.Called.{Calls, Called, AllCalled}
 use Rattle.worked.specs.Examples.{Example, uleb, sleb, rebased, bound, preflown, defined, documented, examples}
 use Rattle.worked.proofs.Hold.{examples_hold}
 
-calls : (M : Machine) (start : M.Reg) (bytes : List ℕ) → Calls M start bytes (heard (listing M 8 start bytes))
+calls : {Op Reg Item : Type 0} (M : Machine Op Reg Item) (start : Reg) (bytes : List ℕ) → Calls M start bytes (heard (listing M 8 start bytes))
 unfolding start_of
 calls M start bytes =
     let w = state (at_start 8) start in

@@ -2,14 +2,15 @@
 use Rattle.std.specs.Prelude.{ℕ, ◌≡◌, List, [], ◌∷◌}
 use Rattle.bind.specs.Binds.{plainly, binds}
 use Rattle.bind.specs.declared.Bind.{Bind}
-use Rattle.listing.specs.Call.{State, begin, call}
+use Rattle.listing.specs.Call.{begin, call}
 use Rattle.listing.specs.Machine.{Machine}
+use Rattle.listing.specs.declared.Walk.{Walk}
 use Rattle.rebase.specs.Rebases.{unset, rebases}
 use Rattle.runs.specs.Runs.{begun, Run, Walks}
 use Rattle.worked.specs.Examples.{Symbol, all_named, Example, uleb, sleb, rebased, bound, preflown}
 
-pub record Calls (M : Machine) (start : M.Reg) (bytes : List ℕ) (run : Run M.Item) : Type 0 where
-  pub given : State M.Reg
+pub record Calls {Op Reg Item : Type 0} (M : Machine Op Reg Item) (start : Reg) (bytes : List ℕ) (run : Run Item) : Type 0 where
+  pub given : Walk Reg
   pub starts : begin 8 start ≡ begun given
   pub say : Walks (call M bytes) given run
 

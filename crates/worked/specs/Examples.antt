@@ -1,13 +1,9 @@
 -- The worked examples: what a document says that some bytes mean, and what the definitions say. A row an example.
-use Rattle.std.specs.Prelude.{ℕ, List, [], ◌∷◌, ℤ, pos, neg_ℤ, length}
+use Rattle.std.specs.Prelude.{ℕ, List, [], ◌∷◌, ℤ, pos, neg_ℤ, length, Option, Some}
 use Rattle.bind.specs.Binds.{binds}
 use Rattle.bind.specs.Binds as bind
 use Rattle.bind.specs.declared.Bind.{Bind}
 use Rattle.listing.specs.Listing.{listing, heard}
-use Rattle.numbers.specs.declared.leb128.Signed.{Signed}
-use Rattle.numbers.specs.declared.leb128.Signed.TheVariants.{Value as SignedValue}
-use Rattle.numbers.specs.declared.leb128.Unsigned.{Unsigned}
-use Rattle.numbers.specs.declared.leb128.Unsigned.TheVariants.{Value as UnsignedValue}
 use Rattle.numbers.specs.Leb128.{uleb_at, sleb_at}
 use Rattle.numbers.specs.Parts.{part_of}
 use Rattle.preflight.specs.Verdict.{Verdict, pass, fault, preflight}
@@ -26,7 +22,7 @@ pub data Symbol : Type 0 where
 
 abbrev pub named : List ℕ → Bind → Symbol
 named bytes b =
-    symbol b.segment b.offset b.kind b.library (part_of bytes b.place b.length) b.flags b.addend
+    symbol b.segment b.offset b.kind b.library (part_of bytes b.name.place b.name.length) b.flags b.addend
 
 unfoldable pub all_named : List ℕ → Run Bind → Run Symbol
 all_named bytes stops = stops
@@ -50,8 +46,8 @@ pub data Example : Type 0 where
   preflown : Stream → (size : ℕ) → (bytes sizes : List ℕ) → Verdict → Example
 
 pub data Meaning : Type 0 where
-  unsigned : Unsigned → Meaning
-  signed : Signed → Meaning
+  unsigned : Option (ℕ × ℕ) → Meaning
+  signed : Option (ℤ × ℕ) → Meaning
   places : Run Rebase → Meaning
   symbols : Run Symbol → Meaning
   verdict : Verdict → Meaning
@@ -72,8 +68,8 @@ defined (preflown stream size bytes sizes said) = verdict (judged stream size si
 
 -- what the document says: of a number, that it is this one and the bytes are read to their end
 abbrev pub documented : Example → Meaning
-documented (uleb n bytes) = unsigned (UnsignedValue n (length bytes))
-documented (sleb z bytes) = signed (SignedValue z (length bytes))
+documented (uleb n bytes) = unsigned (Some (n, length bytes))
+documented (sleb z bytes) = signed (Some (z, length bytes))
 documented (rebased bytes run) = places run
 documented (bound bytes run) = symbols run
 documented (preflown stream size bytes sizes said) = verdict said

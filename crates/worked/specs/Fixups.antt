@@ -211,4 +211,4 @@ import_bytes =
 
 abbrev pub imports_say : Run Import
 imports_say =
-    gives (record { library = neg_ℤ (pos 2); weak = true; addend = neg_ℤ (pos 8); place = 45; length = 2 }) stops
+    gives (record { library = neg_ℤ (pos 2); weak = true; addend = neg_ℤ (pos 8); name = record { place = 45; length = 2 } }) stops

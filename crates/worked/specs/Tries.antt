@@ -1,7 +1,6 @@
 -- Small tries, one for each thing that a trie can do, with what each is to say: its exports with their names, how many nodes are visited,
 -- and how it ends.
-use Rattle.std.specs.Prelude.{ℕ, zero, suc, ◌+◌, ◌/◌, ◌%◌, List, [], ◌∷◌}
-use Rattle.std.proofs.Math.Option.{some}
+use Rattle.std.specs.Prelude.{ℕ, zero, suc, ◌+◌, ◌/◌, ◌%◌, List, [], ◌∷◌, Some}
 use Rattle.nodes.specs.Exported.{Exported, Target, regular, reexport, stub_and_resolver}
 use Rattle.nodes.specs.Symbols.{symbol, at_end, at_refusal}
 use Rattle.trie.specs.Joined.{Joined, joined}
@@ -57,20 +56,20 @@ row (suc n) at = 0x00 ∷ 0x01 ∷ 0x00 ∷ ((at + 5) % 128 + 128) ∷ ((at + 5)
 
 abbrev pub samples : List Sample
 samples =
-    record { bytes = empty; room = 9; says = joined [] 0 (some (at_refusal 15)) }
-    ∷ record { bytes = empty_edge; room = 0; says = joined (symbol [] (exports 0x00 (regular 5)) ∷ symbol [] (exports 0x00 (regular 7)) ∷ []) 2 (some at_end) }
-    ∷ record { bytes = shared; room = 2; says = joined (symbol (0x61 ∷ 0x62 ∷ []) (exports 0x01 (regular 0x10)) ∷ symbol (0x63 ∷ []) (exports 0x01 (regular 0x10)) ∷ []) 3 (some at_end) }
-    ∷ record { bytes = shared; room = 1; says = joined [] 1 (some (at_refusal 18)) }
-    ∷ record { bytes = loop; room = 9; says = joined [] 2 (some (at_refusal 16)) }
-    ∷ record { bytes = loop; room = 1; says = joined [] 2 (some (at_refusal 18)) }
-    ∷ record { bytes = kinds; room = 9; says = joined (symbol [] (exports 0x08 (reexport 1 3 2)) ∷ symbol (0x61 ∷ []) (exports 0x10 (stub_and_resolver 0x20 0x30)) ∷ []) 2 (some at_end) }
-    ∷ record { bytes = unknown_flags; room = 9; says = joined [] 0 (some (at_refusal 15)) }
-    ∷ record { bytes = short_area; room = 9; says = joined [] 0 (some (at_refusal 15)) }
+    record { bytes = empty; room = 9; says = joined [] 0 (Some (at_refusal 15)) }
+    ∷ record { bytes = empty_edge; room = 0; says = joined (symbol [] (exports 0x00 (regular 5)) ∷ symbol [] (exports 0x00 (regular 7)) ∷ []) 2 (Some at_end) }
+    ∷ record { bytes = shared; room = 2; says = joined (symbol (0x61 ∷ 0x62 ∷ []) (exports 0x01 (regular 0x10)) ∷ symbol (0x63 ∷ []) (exports 0x01 (regular 0x10)) ∷ []) 3 (Some at_end) }
+    ∷ record { bytes = shared; room = 1; says = joined [] 1 (Some (at_refusal 18)) }
+    ∷ record { bytes = loop; room = 9; says = joined [] 2 (Some (at_refusal 16)) }
+    ∷ record { bytes = loop; room = 1; says = joined [] 2 (Some (at_refusal 18)) }
+    ∷ record { bytes = kinds; room = 9; says = joined (symbol [] (exports 0x08 (reexport 1 3 2)) ∷ symbol (0x61 ∷ []) (exports 0x10 (stub_and_resolver 0x20 0x30)) ∷ []) 2 (Some at_end) }
+    ∷ record { bytes = unknown_flags; room = 9; says = joined [] 0 (Some (at_refusal 15)) }
+    ∷ record { bytes = short_area; room = 9; says = joined [] 0 (Some (at_refusal 15)) }
     ∷ []
 
 -- 256 open nodes, and one more
 abbrev pub rows : List Sample
 rows =
-    record { bytes = row 255 0; room = 0; says = joined [] 256 (some at_end) }
-    ∷ record { bytes = row 256 0; room = 0; says = joined [] 256 (some (at_refusal 17)) }
+    record { bytes = row 255 0; room = 0; says = joined [] 256 (Some at_end) }
+    ∷ record { bytes = row 256 0; room = 0; says = joined [] 256 (Some (at_refusal 17)) }
     ∷ []

@@ -11,7 +11,8 @@ use mir.Val.{Fits}
 use Rattle.numbers.specs.Gathered.{gathered, gathered_at}
 use Rattle.numbers.specs.Leb128.{is_last, tenth, unsigned}
 use Rattle.numbers.specs.Spans.{Span, span, unended, span_to}
-use Rattle.numbers.specs.declared.leb128.Gathered.TheVariants.{Few, Ten, Cut}
+use Rattle.numbers.specs.declared.leb128.Gathered.TheVariants.{Few, Ten}
+use Rattle.std.specs.Prelude.{Some, None}
 use Rattle.numbers.specs.Passed.{Passed, behind}
 use Rattle.numbers.proofs.Spans.{length_snoc, none_passed, one_passed, runs_out, span_ends}
 use Rattle.numbers.proofs.leb128.Chunks.{Worth, none_worth, one_more, sum_below, scale_small, nine_passed, eight_passed}
@@ -19,21 +20,21 @@ use Rattle.numbers.proofs.leb128.Chunks.{Worth, none_worth, one_more, sum_below,
 -- ---- what is gathered of a span, by its length
 
 module _ (from : ℕ) (ps : List ℕ) (b : ℕ) where
-  pub gathered_few : length ps ≤ 8 → gathered from (span (ps ++ (b ∷ []))) ≡ Few (unsigned ps) (128 ^ length ps) b (from + (length ps + 1))
+  pub gathered_few : length ps ≤ 8 → gathered from (span (ps ++ (b ∷ []))) ≡ Some (Few (unsigned ps) (128 ^ length ps) b (from + (length ps + 1)))
   gathered_few h =
       let e : length ps + 1 - 1 ≡ length ps = omega arith in
       rw (length_snoc ps b, lt-ltb (length ps + 1) 10 (omega arith), e, take-append_seam ps (b ∷ []), get_or-append_seam ps b [] 0)
 
-  pub gathered_ten : length ps ≡ 9 → b < 128 → gathered from (span (ps ++ (b ∷ []))) ≡ Ten (unsigned ps) b (from + (length ps + 1))
+  pub gathered_ten : length ps ≡ 9 → b < 128 → gathered from (span (ps ++ (b ∷ []))) ≡ Some (Ten (unsigned ps) b (from + (length ps + 1)))
   gathered_ten h l =
       let e : 10 ≡ length ps + 1 = omega arith in
       rw (length_snoc ps b, le-ltb (length ps + 1) 10 (omega arith), get_or_at ps b [] 0 9 h, lt-ltb b 128 l, take_at ps (b ∷ []) 9 h)
-      (ap (λ (n : ℕ). Ten (unsigned ps) b (from + n)) e)
+      (ap (λ (n : ℕ). Some (Ten (unsigned ps) b (from + n))) e)
 
-pub gathered_long : (from : ℕ) (bs : List ℕ) → 10 ≤ length bs → 128 ≤ tenth bs → gathered from (span bs) ≡ Cut
+pub gathered_long : (from : ℕ) (bs : List ℕ) → 10 ≤ length bs → 128 ≤ tenth bs → gathered from (span bs) ≡ None
 gathered_long from bs h l = rw (le-ltb (length bs) 10 h, le-ltb (tenth bs) 128 l)
 
-gathered_past : (from : ℕ) (ps : List ℕ) (b : ℕ) → length ps ≡ 9 → 128 ≤ b → (x : Span) → gathered from (behind (ps ++ (b ∷ [])) x) ≡ Cut
+gathered_past : (from : ℕ) (ps : List ℕ) (b : ℕ) → length ps ≡ 9 → 128 ≤ b → (x : Span) → gathered from (behind (ps ++ (b ∷ [])) x) ≡ None
 gathered_past from ps b h l (span bs) =
     let n = length-append (ps ++ (b ∷ [])) bs in
     let t : tenth (ps ++ (b ∷ []) ++ bs) ≡ b = ap tenth (append_snoc ps b bs) ∙ get_or_at ps b bs 0 9 h in
@@ -51,7 +52,7 @@ pub none_held : (s : List ℕ) (from : ℕ) → Held s from from 0 1
 none_held s from = record { bytes = none_passed is_last s from; few = omega arith; worth = none_worth }
 
 module _ {s : List ℕ} {from at low scale : ℕ} (i : Held s from at low scale) where
-  pub is_out : length s ≤ at → Cut ≡ gathered_at s from
+  pub is_out : length s ≤ at → None ≡ gathered_at s from
   unfolding gathered_at
   is_out h = sym (ap (gathered from) (runs_out i.bytes h))
 
@@ -70,12 +71,12 @@ module _ {s : List ℕ} {from at low scale : ℕ} (i : Held s from at low scale)
       nine : length i.bytes.passed ≡ 9
       nine = nine_passed i.worth i.few t
 
-      pub is_ten : get_or s at 0 < 128 → Ten low (get_or s at 0) (at + 1) ≡ gathered_at s from
+      pub is_ten : get_or s at 0 < 128 → Some (Ten low (get_or s at 0) (at + 1)) ≡ gathered_at s from
       is_ten b =
-          (λ j. Ten (i.worth.worth j) (get_or s at 0) (next j)) ∙
+          (λ j. Some (Ten (i.worth.worth j) (get_or s at 0) (next j))) ∙
           sym (ends b ∙ gathered_ten from i.bytes.passed (get_or s at 0) nine b)
 
-      pub is_cut : 128 ≤ get_or s at 0 → Cut ≡ gathered_at s from
+      pub is_cut : 128 ≤ get_or s at 0 → None ≡ gathered_at s from
       unfolding gathered_at
       is_cut b =
           sym (ap (gathered from) (passes b).rest ∙ gathered_past from i.bytes.passed (get_or s at 0) nine b (span_to is_last (drop (at + 1) s)))
@@ -84,9 +85,9 @@ module _ {s : List ℕ} {from at low scale : ℕ} (i : Held s from at low scale)
       eight : length i.bytes.passed ≤ 8
       eight = eight_passed i.worth i.few t
 
-      pub is_few : get_or s at 0 < 128 → Few low scale (get_or s at 0) (at + 1) ≡ gathered_at s from
+      pub is_few : get_or s at 0 < 128 → Some (Few low scale (get_or s at 0) (at + 1)) ≡ gathered_at s from
       is_few b =
-          (λ j. Few (i.worth.worth j) (i.worth.counts j) (get_or s at 0) (next j)) ∙
+          (λ j. Some (Few (i.worth.worth j) (i.worth.counts j) (get_or s at 0) (next j))) ∙
           sym (ends b ∙ gathered_few from i.bytes.passed (get_or s at 0) eight)
 
       pub fits_sum : (b : ℕ) → Fits w64 (low + b % 128 * scale)

@@ -15,8 +15,8 @@ use Rattle.numbers.specs.Leb128.{tenth, bytes_at, sign_extended, sleb_of, sleb_a
 use Rattle.numbers.specs.Gathered.{gathered_at}
 use Rattle.numbers.specs.Spans.{Span, span, unended}
 use Rattle.numbers.specs.declared.leb128.Gathered.{Gathered}
-use Rattle.numbers.specs.declared.leb128.Gathered.TheVariants.{Few, Ten, Cut}
-use Rattle.numbers.specs.declared.leb128.Signed.TheVariants.{Value, Fault}
+use Rattle.numbers.specs.declared.leb128.Gathered.TheVariants.{Few, Ten}
+use Rattle.std.specs.Prelude.{Option, Some, None}
 use Rattle.numbers.proofs.leb128.Chunks.{low_below, sum_below}
 use Rattle.numbers.proofs.leb128.Views.{Seen, SeenFew, SeenTen, IsCut, value_is, next_is, weight_is, last_is, no_tenth, tenth_is, seen, few_scale_small, few_sum, few_product}
 
@@ -53,29 +53,29 @@ module _ {s : List ℕ} {at low scale last next : ℕ} (v : Seen s at low scale 
 
 -- ---- what the code answers
 
-no_sleb : (at : ℕ) (x : Span) → IsCut x → Fault ≡ sleb_of at x
+no_sleb : (at : ℕ) (x : Span) → IsCut x → None ≡ sleb_of at x
 no_sleb at (span bs) h =
     sym (rw (ne_eqb (tenth bs) 0x00 (λ e. omega arith), ne_eqb (tenth bs) 0x7f (λ e. omega arith)))
 no_sleb at unended h = refl
 
-module _ (s : List ℕ) (at : ℕ) {r : Gathered} (g : r ≡ gathered_at s at) where
-  pub cut_sleb : r ≡ Cut → Fault ≡ sleb_at s at
+module _ (s : List ℕ) (at : ℕ) {r : Option Gathered} (g : r ≡ gathered_at s at) where
+  pub cut_sleb : r ≡ None → None ≡ sleb_at s at
   unfolding sleb_at
   cut_sleb f = no_sleb at (bytes_at s at) (seen s at g f)
 
-  module _ {low scale last next : ℕ} (f : r ≡ Few low scale last next) where
+  module _ {low scale last next : ℕ} (f : r ≡ Some (Few low scale last next)) where
     few : SeenFew s at low scale last next
     few = seen s at g f
 
-    few_value : {z : ℤ} → z ≡ sign_extended (few.seen.passed ++ (last ∷ [])) → Value z next ≡ sleb_at s at
+    few_value : {z : ℤ} → z ≡ sign_extended (few.seen.passed ++ (last ∷ [])) → Some (z, next) ≡ sleb_at s at
     unfolding sleb_at
     few_value e =
-        ap (λ (y : ℤ). Value y next) e ∙ sym (ap (sleb_of at) few.seen.is ∙ rw (no_tenth few, next_is few.seen))
+        ap (λ (y : ℤ). Some (y, next)) e ∙ sym (ap (sleb_of at) few.seen.is ∙ rw (no_tenth few, next_is few.seen))
 
-    pub few_plus : {z : ℤ} → last < 64 → z ≡ pos (low + last * scale) → Value z next ≡ sleb_at s at
+    pub few_plus : {z : ℤ} → last < 64 → z ≡ pos (low + last * scale) → Some (z, next) ≡ sleb_at s at
     few_plus h e = few_value (e ∙ sym (extended_plus few.seen h))
 
-    pub few_minus : {z : ℤ} → 64 ≤ last → z ≡ negsuc ((127 - last) * scale + (scale - 1 - low)) → Value z next ≡ sleb_at s at
+    pub few_minus : {z : ℤ} → 64 ≤ last → z ≡ negsuc ((127 - last) * scale + (scale - 1 - low)) → Some (z, next) ≡ sleb_at s at
     few_minus h e = few_value (e ∙ sym (extended_minus few.seen h))
 
     pub few_last : last ≤ 127
@@ -99,7 +99,7 @@ module _ (s : List ℕ) (at : ℕ) {r : Gathered} (g : r ≡ gathered_at s at) w
     pub minus_product : 64 ≤ last → Fits w64 ((127 - last) * scale)
     minus_product h = record { fits = omega (arith, minus_small h) }
 
-  module _ {low last next : ℕ} (f : r ≡ Ten low last next) where
+  module _ {low last next : ℕ} (f : r ≡ Some (Ten low last next)) where
     ten : SeenTen s at low last next
     ten = seen s at g f
 
@@ -109,20 +109,20 @@ module _ (s : List ℕ) (at : ℕ) {r : Gathered} (g : r ≡ gathered_at s at) w
     pub ten_most : low ≤ 2 ^ 63 - 1
     ten_most = omega (arith, ten_low)
 
-    ten_value : (k : ℕ) {z : ℤ} → last ≡ k → (eqb k 0x00 || eqb k 0x7f) ≡ true → z ≡ sign_extended (ten.seen.passed ++ (last ∷ [])) → Value z next ≡ sleb_at s at
+    ten_value : (k : ℕ) {z : ℤ} → last ≡ k → (eqb k 0x00 || eqb k 0x7f) ≡ true → z ≡ sign_extended (ten.seen.passed ++ (last ∷ [])) → Some (z, next) ≡ sleb_at s at
     unfolding sleb_at
     ten_value k h t e =
-        ap (λ (y : ℤ). Value y next) e ∙ sym (ap (sleb_of at) ten.seen.is ∙ rw (tenth_is ten ∙ h, t, next_is ten.seen))
+        ap (λ (y : ℤ). Some (y, next)) e ∙ sym (ap (sleb_of at) ten.seen.is ∙ rw (tenth_is ten ∙ h, t, next_is ten.seen))
 
-    pub ten_plus : {z : ℤ} → last ≡ 0 → z ≡ pos low → Value z next ≡ sleb_at s at
+    pub ten_plus : {z : ℤ} → last ≡ 0 → z ≡ pos low → Some (z, next) ≡ sleb_at s at
     ten_plus h e =
         ten_value 0 h refl (e ∙ ap pos (omega arith) ∙ sym (extended_plus ten.seen (omega arith)))
 
-    pub ten_minus : {z : ℤ} → last ≡ 127 → z ≡ negsuc (2 ^ 63 - 1 - low) → Value z next ≡ sleb_at s at
+    pub ten_minus : {z : ℤ} → last ≡ 127 → z ≡ negsuc (2 ^ 63 - 1 - low) → Some (z, next) ≡ sleb_at s at
     ten_minus h e =
         ten_value 127 h refl (e ∙ ap negsuc (omega arith) ∙ sym (extended_minus ten.seen (omega arith)))
 
-    pub ten_fault : (last ≡ 0 → ⊥) → (last ≡ 127 → ⊥) → Fault ≡ sleb_at s at
+    pub ten_fault : (last ≡ 0 → ⊥) → (last ≡ 127 → ⊥) → None ≡ sleb_at s at
     unfolding sleb_at
     ten_fault h l = sym (ap (sleb_of at) ten.seen.is ∙ rw (tenth_is ten, ne_eqb last 0 h, ne_eqb last 127 l))
 

@@ -13,7 +13,8 @@ use Rattle.numbers.specs.Gathered.{gathered, gathered_at}
 use Rattle.numbers.specs.Leb128.{is_last, bytes_at, tenth, unsigned}
 use Rattle.numbers.specs.Spans.{Span, span, unended}
 use Rattle.numbers.specs.declared.leb128.Gathered.{Gathered}
-use Rattle.numbers.specs.declared.leb128.Gathered.TheVariants.{Few, Ten, Cut}
+use Rattle.numbers.specs.declared.leb128.Gathered.TheVariants.{Few, Ten}
+use Rattle.std.specs.Prelude.{Option, Some, None}
 use Rattle.numbers.proofs.Spans.{IsSpan, is_span, length_snoc}
 use Rattle.numbers.proofs.leb128.Chunks.{Worth, one_more, sum_below, scale_small}
 use Rattle.numbers.proofs.leb128.Gathering.{gathered_few, gathered_ten, gathered_long}
@@ -40,10 +41,10 @@ IsCut (span bs) = 128 ≤ tenth bs
 IsCut unended = Unit {0}
 
 -- what each of the three answers says of the bytes
-abbrev pub View : List ℕ → ℕ → Gathered → Type 0
-View s at (Few low scale last next) = SeenFew s at low scale last next
-View s at (Ten low last next) = SeenTen s at low last next
-View s at Cut = IsCut (bytes_at s at)
+abbrev pub View : List ℕ → ℕ → Option Gathered → Type 0
+View s at (Some (Few low scale last next)) = SeenFew s at low scale last next
+View s at (Some (Ten low last next)) = SeenTen s at low last next
+View s at None = IsCut (bytes_at s at)
 
 module _ (s : List ℕ) (at : ℕ) {bs : List ℕ} (e : bytes_at s at ≡ span bs) (i : IsSpan is_last (drop at s) bs) where
   abbrev whole : (scale : ℕ) → scale ≡ 128 ^ length i.passed → Seen s at (unsigned i.passed) scale i.last (at + (length i.passed + 1))
@@ -118,11 +119,11 @@ tenth_is {last = last} v = get_or_at v.seen.passed last [] 0 9 v.ten
 
 -- ---- the same, from what a call of `gather` promises and the arm of a match on it
 
-module _ (s : List ℕ) (at : ℕ) {r : Gathered} (g : r ≡ gathered_at s at) where
-  pub seen : {y : Gathered} → r ≡ y → View s at y
+module _ (s : List ℕ) (at : ℕ) {r : Option Gathered} (g : r ≡ gathered_at s at) where
+  pub seen : {y : Option Gathered} → r ≡ y → View s at y
   seen f = subst (View s at) (sym g ∙ f) (view s at)
 
-  module _ {low scale last next : ℕ} (f : r ≡ Few low scale last next) where
+  module _ {low scale last next : ℕ} (f : r ≡ Some (Few low scale last next)) where
     few : SeenFew s at low scale last next
     few = seen f
 

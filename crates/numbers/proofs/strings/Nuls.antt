@@ -6,25 +6,25 @@ use mathlib.Core.List.{List, [], ◌∷◌, ◌++◌}
 use native.Mathlib.Omega.{arith}
 use borrow.Author.Tests.{eq-eqb, ne_eqb}
 use lib.ListN.{length, get_or}
-use Rattle.numbers.specs.Strings.{is_nul, string_of, string_at}
-use Rattle.numbers.specs.declared.strings.Text.TheVariants.{Found, Fault}
+use Rattle.numbers.specs.Strings.{part_from, is_nul, string_of, string_at}
+use Rattle.std.specs.Prelude.{Some, None}
 use Rattle.numbers.specs.Passed.{Passed, nul_within}
 use Rattle.numbers.proofs.Picks.{neither}
 use Rattle.numbers.proofs.Spans.{length_snoc, none_passed, one_passed, runs_out, span_ends}
 
 module _ {s : List ℕ} {from at : ℕ} (i : Passed is_nul s from at) where
-  pub string_ends : at < length s → get_or s at 0 ≡ 0 → Found from (at - from) (at + 1) ≡ string_at s from
+  pub string_ends : at < length s → get_or s at 0 ≡ 0 → Some (part_from from (at - from), at + 1) ≡ string_at s from
   unfolding string_at
   string_ends h b =
       let n = length_snoc i.passed (get_or s at 0) in
       let e : at - from ≡ length (i.passed ++ (get_or s at 0 ∷ [])) - 1 = omega (arith, n, i.place) in
       let f : at + 1 ≡ from + length (i.passed ++ (get_or s at 0 ∷ [])) = omega (arith, n, i.place) in
-      (λ j. Found from (e j) (f j)) ∙ sym (ap (string_of from) (span_ends i h (eq-eqb (get_or s at 0) 0 b)))
+      (λ j. Some (part_from from (e j), f j)) ∙ sym (ap (string_of from) (span_ends i h (eq-eqb (get_or s at 0) 0 b)))
 
   pub string_goes_on : at < length s → (get_or s at 0 ≡ 0 → ⊥) → Passed is_nul s from (at + 1)
   string_goes_on h b = one_passed i h (ne_eqb (get_or s at 0) 0 b)
 
-  pub no_string : length s ≤ at → Fault ≡ string_at s from
+  pub no_string : length s ≤ at → None ≡ string_at s from
   unfolding string_at
   no_string h = sym (ap (string_of from) (runs_out i h))
 

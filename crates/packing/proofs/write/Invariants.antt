@@ -1,10 +1,5 @@
--- What `packing::write` keeps from word to word.
-use Rattle.std.proofs.Common.{◌-◌, length}
 use Rattle.packing.proofs.Words.{Writing}
 use Rattle.packing.proofs.write.Given as goal
 
 abbrev pub invariant-loop-i : goal.invariant-loop-i
 invariant-loop-i l = Writing l.words l.fn.s l.s l.i
-
-abbrev pub decreases-loop-i : goal.decreases-loop-i
-decreases-loop-i l = length l.words - l.i

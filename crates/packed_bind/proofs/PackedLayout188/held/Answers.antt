@@ -1,0 +1,18 @@
+-- A field of a byte fits. Assumes nothing.
+use Rattle.std.proofs.Common.{rules}
+use Rattle.packed_bind.specs.Packed.{largest}
+use Rattle.packing.proofs.Boundary.{tested}
+use Rattle.packing.proofs.Fields.{byte_fits}
+use Rattle.packed_bind.proofs.PackedLayout188.held.Goals as goal
+
+pub overflow_cast-result : goal.overflow_cast-result
+overflow_cast-result c = search (byte_fits largest, tested, rules)
+
+pub overflow_cast-result-2 : goal.overflow_cast-result-2
+overflow_cast-result-2 c = search (byte_fits largest, tested, rules)
+
+pub overflow_cast-result-3 : goal.overflow_cast-result-3
+overflow_cast-result-3 c = search (byte_fits largest, tested, rules)
+
+pub overflow_cast-result-4 : goal.overflow_cast-result-4
+overflow_cast-result-4 c = search (byte_fits largest, tested, rules)
