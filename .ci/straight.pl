@@ -185,7 +185,7 @@ sub one_loop {
             turns_read($name, @$of);
             measured($name);
             $read = 1;
-        } elsif ($parser{$of}) {
+        } elsif ($parser{$of} || $read && reads($of)) {
             refuse("a reading outside of a loop in $name");
         } elsif (reads($of) && !$read) {
             one_loop($of);

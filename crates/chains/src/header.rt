@@ -32,11 +32,14 @@ impl Header {
         Ok(header)
     }
 
-    // Its fields, where all of them lie in the bytes.
+    // Its fields, where all of them lie in the bytes. (One test of the length is all that is left of those of the fields.)
     #[tactic(auto, unfolding(numbers::specs::LittleEndian::field_at))]
     fn read(s: &[u8]) -> Option<Header>
         ensures { result ≡ cond (ltb (length s.now) 28) None (Some (header_of s.now)) }
     {
+        if s.len() < 28 {
+            return None;
+        }
         Some(Header {
             fixups_version: read_u32(s, 0)?.0,
             starts_offset: read_u32(s, 4)?.0,

@@ -1,7 +1,7 @@
 // Chained fixups: their segments, and their imports.
 use crate::closing;
 use crate::closing::{Ending, Faults, Source, name};
-use crate::line::{Lines, Quoted};
+use crate::line::Lines;
 use chains::{Segment, SegmentWalk};
 use imports::{Import, ImportWalk};
 use refusal::Refusal;
@@ -12,7 +12,7 @@ pub(crate) fn list_segments(s: &[u8], max: u64, lines: &mut Lines) -> io::Result
     closing::list(Segments::start(s), max, lines)
 }
 
-#[derive(Drop)]
+#[derive(Clone, Copy)]
 struct Segments<'s> {
     walk: SegmentWalk,
     s: &'s [u8],
@@ -58,6 +58,7 @@ impl<'s> Segments<'s> {
 impl Source for Segments<'_> {
     type Item = Result<Segment, Refusal>;
 
+    #[inline(always)]
     fn next(&mut self) -> Result<Result<Segment, Refusal>, Ending> {
         match self.walk.step(self.s) {
             Step::Item(next, x) => {
@@ -104,32 +105,22 @@ pub(crate) fn passed(walk: SegmentWalk) -> u64 {
 }
 
 fn segment(x: Segment, lines: &mut Lines) -> io::Result<()> {
-    let Segment {
-        index,
-        segment_offset,
-        max_valid_pointer,
-        place,
-        count,
-        page_size,
-        pointer_format,
-        page_count,
-    } = x;
-    write!(
-        lines,
-        "segment {index:>7}  offset {segment_offset:#018x}  format {pointer_format:>5}"
-    )?;
-    write!(
-        lines,
-        "  page {page_size:#06x}  pages {page_count:>5}  limit {max_valid_pointer:#010x}"
-    )?;
-    writeln!(lines, "  starts {count:>7}  place {place:>7}")
+    lines.decimal("segment ", 7, x.index)?;
+    lines.hex("  offset 0x", 16, x.segment_offset)?;
+    lines.decimal("  format ", 5, u64::from(x.pointer_format))?;
+    lines.hex("  page 0x", 4, u64::from(x.page_size))?;
+    lines.decimal("  pages ", 5, u64::from(x.page_count))?;
+    lines.hex("  limit 0x", 8, x.max_valid_pointer)?;
+    lines.decimal("  starts ", 7, x.count)?;
+    lines.decimal("  place ", 7, x.place as u64)?;
+    lines.write_all(b"\n")
 }
 
 pub(crate) fn list_imports(s: &[u8], max: u64, lines: &mut Lines) -> io::Result<()> {
     closing::list(Imports::start(s), max, lines)
 }
 
-#[derive(Drop)]
+#[derive(Clone, Copy)]
 struct Imports<'s> {
     walk: ImportWalk,
     s: &'s [u8],
@@ -145,6 +136,7 @@ impl<'s> Imports<'s> {
 impl Source for Imports<'_> {
     type Item = Import;
 
+    #[inline(always)]
     fn next(&mut self) -> Result<Import, Ending> {
         match self.walk.step(self.s) {
             Step::Item(next, x) => {
@@ -160,16 +152,9 @@ impl Source for Imports<'_> {
     }
 
     fn print(&mut self, x: Import, index: u64, lines: &mut Lines) -> io::Result<()> {
-        let Import {
-            library,
-            addend,
-            ..
-        } = x;
-        let weak = u8::from(x.weak);
-        let name = Quoted(x.name(self.s));
-        writeln!(
-            lines,
-            "import {index:>7}  library {library:>5}  weak {weak}  addend {addend:>20}  name {name}"
-        )
+        lines.decimal("import ", 7, index)?;
+        lines.signed("  library ", 5, i64::from(x.library))?;
+        lines.decimal("  weak ", 1, u64::from(x.weak))?;
+        lines.symbol(x.addend, x.name(self.s))
     }
 }

@@ -56,17 +56,16 @@ pub(crate) fn list<S: Source + Drop>(
     }
 }
 
+// (One call of `next`, which is compiled into it: the state of a walk over a trie is copied at each call.)
 fn each<S: Source + Drop>(mut source: S, max: u64, lines: &mut Lines) -> io::Result<()> {
-    for count in 0..max {
+    for count in 0..=max {
         match source.next() {
+            Ok(_) if count == max => return close(lines, max, source.cut()),
             Ok(item) => source.print(item, count, lines)?,
             Err(ending) => return close(lines, count, ending),
         }
     }
-    match source.next() {
-        Ok(_) => close(lines, max, source.cut()),
-        Err(ending) => close(lines, max, ending),
-    }
+    Ok(()) // not reached: the last turn returns
 }
 
 // The last line, with the number that it tells, and then all is written.

@@ -1,7 +1,7 @@
 // The exports trie.
 use crate::closing;
 use crate::closing::{Ending, Source};
-use crate::line::{Lines, Quoted};
+use crate::line::Lines;
 use nodes::export::{Export, ExportData};
 use std::io::{self, Write};
 use trie::{TrieAnswer, TrieWalk};
@@ -40,6 +40,7 @@ struct Named {
 impl Source for Exports<'_> {
     type Item = Named;
 
+    #[inline(always)]
     fn next(&mut self) -> Result<Named, Ending> {
         let told = self.walk.step(self.s, &mut self.name[..], NODES);
         self.walk = told.walk;
@@ -55,27 +56,26 @@ impl Source for Exports<'_> {
     }
 
     fn print(&mut self, x: Named, _: u64, lines: &mut Lines) -> io::Result<()> {
-        let name = Quoted(self.name.get(..x.length as usize).unwrap_or(&[]));
-        let flags = x.export.flags;
-        write!(lines, "export  flags {flags:#04x}")?;
-        match x.export.target {
-            ExportData::Regular { address } => writeln!(
-                lines,
-                "  address {address:#018x}  resolver                  -  name {name}"
-            ),
-            ExportData::StubAndResolver { stub, resolver } => writeln!(
-                lines,
-                "  address {stub:#018x}  resolver {resolver:#018x}  name {name}"
-            ),
+        let target = x.export.target;
+        let name = self.name.get(..x.length as usize).unwrap_or(&[]);
+        lines.hex("export  flags 0x", 2, u64::from(x.export.flags))?;
+        match target {
+            ExportData::Regular { address } => {
+                lines.hex("  address 0x", 16, address)?;
+                lines.quoted("  resolver                  -  name ", name)?;
+            }
+            ExportData::StubAndResolver { stub, resolver } => {
+                lines.hex("  address 0x", 16, stub)?;
+                lines.hex("  resolver 0x", 16, resolver)?;
+                lines.quoted("  name ", name)?;
+            }
             ExportData::Reexport(import) => {
-                let library = import.ordinal;
-                let own = Quoted(import.name(self.s));
-                writeln!(
-                    lines,
-                    "  library {library:>18}  resolver                  -  name {name}  import {own}"
-                )
+                lines.decimal("  library ", 18, import.ordinal)?;
+                lines.quoted("  resolver                  -  name ", name)?;
+                lines.quoted("  import ", import.name(self.s))?;
             }
         }
+        lines.write_all(b"\n")
     }
 }
 

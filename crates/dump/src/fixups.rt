@@ -69,7 +69,7 @@ fn find(s: &[u8], index: u64) -> Result<Option<Segment>, Refused> {
     Ok(None)
 }
 
-#[derive(Drop)]
+#[derive(Clone, Copy)]
 struct Fixups<'s> {
     walk: PageWalk,
     s: &'s [u8],
@@ -86,6 +86,7 @@ impl<'s> Fixups<'s> {
 impl Source for Fixups<'_> {
     type Item = Patch;
 
+    #[inline(always)]
     fn next(&mut self) -> Result<Patch, Ending> {
         match self.walk.step(self.s, self.d) {
             Step::Item(next, x) => {
@@ -101,21 +102,18 @@ impl Source for Fixups<'_> {
     }
 
     fn print(&mut self, x: Patch, _: u64, lines: &mut Lines) -> io::Result<()> {
-        let place = x.place;
         match x.fixup {
             Fixup::Rebase(r) => {
-                let target = r.target;
-                writeln!(lines, "rebase  offset {place:#018x}  target {target:#018x}")
+                lines.hex("rebase  offset 0x", 16, x.place)?;
+                lines.hex("  target 0x", 16, r.target)?;
             }
             Fixup::Bind(b) => {
-                let ordinal = b.ordinal;
-                let addend = b.addend;
-                writeln!(
-                    lines,
-                    "bind    offset {place:#018x}  import {ordinal:>18}  addend {addend:>3}"
-                )
+                lines.hex("bind    offset 0x", 16, x.place)?;
+                lines.decimal("  import ", 18, b.ordinal)?;
+                lines.decimal("  addend ", 3, b.addend)?;
             }
         }
+        lines.write_all(b"\n")
     }
 }
 

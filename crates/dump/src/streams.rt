@@ -2,7 +2,7 @@
 use crate::closing::{Ending, Source};
 use crate::file::{Wanted, load};
 use crate::flight::{first_fault, place};
-use crate::line::{Lines, Quoted};
+use crate::line::Lines;
 use crate::usage::Stop;
 use crate::words::Call;
 use crate::{Host, closing};
@@ -88,6 +88,7 @@ where
 {
     type Item = R::Item;
 
+    #[inline(always)]
     fn next(&mut self) -> Result<R::Item, Ending> {
         match self.walk.step(self.s) {
             Step::Item(next, x) => {
@@ -119,37 +120,34 @@ fn ended(at: usize, s: &[u8]) -> Ending {
 
 impl Place for Rebase {
     fn print(self, _: &[u8], lines: &mut Lines) -> io::Result<()> {
-        let Rebase {
-            segment,
-            offset,
-            kind,
-        } = self;
-        writeln!(
+        place_at(
             lines,
-            "rebase  segment {segment:>2}  offset {offset:#018x}  type {kind:>2}"
-        )
+            "rebase  segment ",
+            self.segment,
+            self.offset,
+            self.kind,
+        )?;
+        lines.write_all(b"\n")
     }
 }
 
 impl Place for Bind {
     fn print(self, s: &[u8], lines: &mut Lines) -> io::Result<()> {
-        let Bind {
-            segment,
-            offset,
-            kind,
-            library,
-            flags,
-            addend,
-            ..
-        } = self;
-        let name = Quoted(self.name(s));
-        write!(
+        place_at(
             lines,
-            "bind  segment {segment:>2}  offset {offset:#018x}  type {kind:>2}"
+            "bind  segment ",
+            self.segment,
+            self.offset,
+            self.kind,
         )?;
-        writeln!(
-            lines,
-            "  library {library:>10}  flags {flags:#x}  addend {addend:>20}  name {name}"
-        )
+        lines.signed("  library ", 10, i64::from(self.library))?;
+        lines.hex("  flags 0x", 1, u64::from(self.flags))?;
+        lines.symbol(self.addend, self.name(s))
     }
+}
+
+fn place_at(lines: &mut Lines, what: &str, segment: u8, offset: u64, kind: u8) -> io::Result<()> {
+    lines.decimal(what, 2, u64::from(segment))?;
+    lines.hex("  offset 0x", 16, offset)?;
+    lines.decimal("  type ", 2, u64::from(kind))
 }

@@ -7,6 +7,7 @@ use numbers::little_endian::read_u16;
 
 // Where a search comes to: a pointer that is due, or the end. (With the `None` beside it there are three cases; a
 // `Result` of two walks would say less.)
+#[derive(Clone, Copy)]
 pub(crate) enum Sought {
     At(PageWalk),
     End(PageWalk),

@@ -1,4 +1,5 @@
 pub mod Searches
+pub mod Puts
 pub mod Children
 pub mod Visits
 pub mod Calls

@@ -11,7 +11,11 @@ pub(crate) fn put(bytes: &[u8], name: &mut [u8], at: usize)
     let Some(end) = at.checked_add(bytes.len()) else {
         return;
     };
-    if end <= name.len() {
-        name[at..end].copy_from_slice(bytes);
+    if name.len() < end {
+        return;
+    }
+    // (Byte by byte: the archive asks for no `memmove` of a C library, which `copy_from_slice` would.)
+    for (i, b) in bytes.iter().enumerate() {
+        name[at + i] = *b;
     }
 }
